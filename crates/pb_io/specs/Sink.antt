@@ -1,0 +1,11 @@
+-- What a write does to the bytes that a sink holds, where the sink knows them.
+use Rattle.std.specs.Prelude.{◌≡◌, ℕ, ◌+◌, ◌<◌, ◌≤◌, List, ◌++◌, length, take, Option, Result, MatchResult}
+use Rattle.std.specs.Io.KnownBytes.{Appends, Keeps}
+
+-- A write that answers n took the first n bytes of the piece. A write that fails takes nothing.
+abbrev pub Writes : {E : Type 0} → Option (List ℕ) → Option (List ℕ) → List ℕ → Result ℕ E → Type 0
+Writes old new piece result = MatchResult result (λ n. Appends old new (take n piece)) (λ _. Keeps old new)
+
+-- known bytes grew by a front of these
+abbrev pub AppendsFront : Option (List ℕ) → Option (List ℕ) → List ℕ → Type 0
+AppendsFront old new text = (front rest : List ℕ) × (text ≡ front ++ rest) × Appends old new front

@@ -1,0 +1,21 @@
+ghost use Rattle.std.specs.Prelude.{ℕ, ◌≤◌, List, length, Option, IfOk};
+ghost use Rattle.pb_io.specs.Faults.{HasCause};
+ghost use Rattle.pb_io.specs.Source.{Reads};
+
+use crate::Failed;
+
+/// Where bytes come from.
+pub trait Source {
+    /// The bytes that are left, where the source knows them.
+    ghost left: { Self → Option (List ℕ) };
+
+    /// How often a read has failed. The count doesn't fall, and stands still at 2^64 - 1.
+    ghost read_faults: { Self → ℕ };
+
+    /// Reads into the front of `to`, and answers how many bytes came. Into a slice that isn't empty it answers 0
+    /// only at the end of the input.
+    fn read(&mut self, to: &mut [u8]) -> Result<usize, Failed>
+        ensures bound { IfOk result (λ n. n ≤ length to.old) }
+        ensures bytes { Reads (left self.old) (left self.new) to.new result }
+        ensures cause { HasCause (read_faults self.old) (read_faults self.new) result };
+}
