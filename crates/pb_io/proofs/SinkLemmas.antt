@@ -1,5 +1,5 @@
 -- How the bytes of several writes make up a text.
-use Rattle.std.proofs.Common.{◌≡◌, ℕ, ◌+◌, List, ◌++◌, take, drop, Option, Result, Ok, Err, OnErr, subst, sym}
+use Rattle.std.proofs.Common.{ℕ, ◌+◌, List, take, drop, Option, Result, Ok, Err, OnErr, subst, sym}
 use Rattle.std.proofs.lemmas.List.{take-append-drop}
 use Rattle.std.proofs.Math.Seq.{take-add}
 use Rattle.std.proofs.KnownBytes.{Appends-trans, Appends-kept}

@@ -1,3 +1,11 @@
+pub mod Calls
+pub mod Copy
+pub mod Crash
+pub mod Disk
 pub mod Faults
+pub mod InMemory
+pub mod Settled
 pub mod Sink
+pub mod Site
 pub mod Source
+pub mod Told

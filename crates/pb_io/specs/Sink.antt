@@ -1,5 +1,5 @@
 -- What a write does to the bytes that a sink holds, where the sink knows them.
-use Rattle.std.specs.Prelude.{◌≡◌, ℕ, ◌+◌, ◌<◌, ◌≤◌, List, ◌++◌, length, take, Option, Result, MatchResult}
+use Rattle.std.specs.Prelude.{◌≡◌, ℕ, List, ◌++◌, take, Option, Result, MatchResult}
 use Rattle.std.specs.Io.KnownBytes.{Appends, Keeps}
 
 -- A write that answers n took the first n bytes of the piece. A write that fails takes nothing.

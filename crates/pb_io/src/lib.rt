@@ -1,10 +1,34 @@
 //! The outside as the layers above see it: where bytes come from and go to.
 #![tactic(auto)]
 
+mod copy;
+mod disk;
 mod failed;
+mod fault_plan;
+mod history;
+mod mem_disk;
+mod mem_sink;
+mod mem_site;
+mod mem_source;
+mod settled;
 mod sink;
+mod site;
 mod source;
+mod turn;
 
+pub use copy::{CopyFault, copy_all};
+pub use disk::Disk;
 pub use failed::Failed;
+pub use history::history_goes_on;
+pub use mem_disk::MemDisk;
+pub use mem_sink::MemSink;
+pub use mem_site::MemSite;
+pub use mem_source::MemSource;
+pub use settled::{write_in_order, write_settled};
 pub use sink::{Sink, put_all};
+pub use site::Site;
 pub use source::Source;
+pub use turn::send_and_recv;
+
+#[cfg(test)]
+mod tests;

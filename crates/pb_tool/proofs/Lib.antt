@@ -1,1 +1,6 @@
 mod HexLemmas
+mod LineLemmas
+mod PrintLemmas
+mod StreamLemmas
+mod TakesLemmas
+mod WordLemmas

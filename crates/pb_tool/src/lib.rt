@@ -1,5 +1,13 @@
 //! The commands of `pakbus`, over any site, source and sink.
 #![tactic(auto)]
 
+mod closing;
+mod commands;
 mod lines;
 mod page;
+mod show;
+mod status;
+mod words;
+
+pub use commands::run;
+pub use status::Status;

@@ -1,0 +1,5 @@
+use Rattle.pb_frame.proofs.LawLemmas.{nullified}
+use Rattle.pb_frame.proofs.laws.law_nullifier.Goals as goal
+
+pub returns : goal.returns
+returns c = nullified

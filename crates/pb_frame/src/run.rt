@@ -1,0 +1,31 @@
+ghost use Rattle.std.specs.Prelude.{◌≡◌, ℕ, ◌+◌, ◌*◌, ◌≤◌, All, length, take, drop};
+ghost use Rattle.pb_frame.specs.Signature.{sig};
+ghost use Rattle.pb_frame.specs.Framing.{IsPlain};
+
+use crate::limits::{FLAG, QUOTE};
+use crate::signing::Signer;
+
+/// Copies and signs the bytes of the front of `bytes` that need no quoting, as far as there is room, and answers how
+/// many they are.
+pub fn copy_plain(bytes: &[u8], room: &mut [u8], signer: &mut Signer) -> usize
+    ensures front { result ≤ length bytes.now }
+    ensures room { result ≤ length room.old }
+    ensures plain { All IsPlain (take result bytes.now) }
+    ensures copied { take result room.new ≡ take result bytes.now }
+    ensures signed { 256 * signer.new.high + signer.new.low ≡ sig (take result bytes.now) (256 * signer.old.high + signer.old.low) }
+{
+    let end = bytes.len().min(room.len());
+    let mut sum = *signer;
+    let mut done = 0;
+    while done < end {
+        let byte = bytes[done];
+        if matches!(byte, FLAG | QUOTE) {
+            break;
+        }
+        room[done] = byte;
+        sum = sum.step(byte);
+        done += 1;
+    }
+    *signer = sum;
+    done
+}

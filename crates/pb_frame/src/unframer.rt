@@ -1,0 +1,258 @@
+ghost use Rattle.std.specs.Prelude.{◌≡◌, ◌==◌, ℕ, ◌+◌, ◌*◌, ◌^◌, ◌<◌, ◌≤◌, List, [], ◌∷◌, ◌++◌, length, take, All, IsSome, is_some};
+ghost use Rattle.pb_frame.specs.Framing.{IsPlain, IsContentSize, verdicts, unfinished};
+ghost use Rattle.pb_frame.specs.Hearing.{StandsFor, Follows, shown, IsAnswered, HoldsContent, HasNoFlag, hearing};
+ghost use Rattle.pb_frame.specs.Turn.{kept, ended, gone_on, begun, unquoted_by, passed, turned};
+
+use crate::limits::{BODY_MAX, FLAG, QUOTE, QUOTED_FLAG, QUOTED_QUOTE, START};
+use crate::run::copy_plain;
+use crate::signing::Signer;
+use crate::state::State;
+use crate::{Heard, Why};
+use std::marker::Model;
+
+/// Takes a stream of bytes one at a time, and answers a verdict for each piece as soon as it has one. It keeps the
+/// body of one piece, at most 1,010 bytes, and none of the stream.
+#[derive(Drop)]
+pub struct Unframer {
+    state: State,
+    count: u64,
+    piece: u64,
+    signer: Signer,
+    length: usize,
+    body: [u8; BODY_MAX],
+}
+
+impl Model for Unframer {
+    ghost use Rattle.std.specs.Prelude.{take};
+    ghost use Rattle.pb_frame.specs.Hearing.{Hearing, hearing};
+
+    ghost Value = { Hearing };
+
+    ghost use Rattle.pb_frame.specs.Inside.{IsUnframer};
+
+    ghost view = { λ u. hearing u.state u.count u.piece (take u.length u.body) };
+
+    ghost invariant = { IsUnframer };
+}
+
+impl Unframer {
+    /// An unframer to which nothing was pushed.
+    pub fn new() -> Unframer
+        ensures stands { StandsFor result [] }
+        ensures verdicts { verdicts [] ≡ [] }
+        ensures unfinished { unfinished [] ≡ None }
+        ensures count { result.count ≡ 0 }
+    {
+        Unframer {
+            state: State::Skipping,
+            count: 0,
+            piece: 0,
+            signer: Signer::new(START),
+            length: 0,
+            body: [0; BODY_MAX],
+        }
+    }
+
+    /// Takes one byte.
+    pub fn push(&mut self, byte: u8) -> Heard
+        requires { self.old.count < 2 ^ 62 }
+        ensures follows { Follows self.old (byte ∷ []) (shown self.new result) self.new }
+        ensures count { self.new.count ≡ self.old.count + 1 }
+        ensures kept { length self.new.body ≤ 1010 }
+        ensures answer { IsAnswered self.new result }
+    {
+        match self.state {
+            State::Skipping => self.pass(byte),
+            State::Between | State::Whole => self.begin(byte),
+            State::Plain => self.go_on(byte),
+            State::Quoting => self.unquote(byte),
+        }
+    }
+
+    /// Takes a front of `bytes` that shows no verdict, and answers how many bytes that were. It may be none, as at a
+    /// flag byte or a quote byte: then `push` takes the next one.
+    pub fn take_plain(&mut self, bytes: &[u8]) -> usize
+        requires { self.old.count + length bytes.now ≤ 2 ^ 62 }
+        ensures front { result ≤ length bytes.now }
+        ensures follows { Follows self.old (take result bytes.now) [] self.new }
+        ensures count { self.new.count ≡ self.old.count + result }
+        ensures kept { length self.new.body ≤ 1010 }
+    {
+        match self.state {
+            State::Plain => self.take_body(bytes),
+            State::Skipping => self.skip(bytes),
+            _ => 0,
+        }
+    }
+
+    /// The place of the first byte of the piece in progress or, right after a verdict, of the piece that was judged.
+    pub fn piece(&self) -> u64
+        ensures value { result ≡ self.now.piece }
+        ensures open { (pushed : List ℕ) → StandsFor self.now pushed → IsSome (unfinished pushed) → unfinished pushed ≡ Some result }
+    {
+        self.piece
+    }
+
+    /// Whether the piece after the last flag byte has bytes and no verdict yet.
+    pub fn pending(&self) -> bool
+        ensures { (pushed : List ℕ) → StandsFor self.now pushed → is_some (unfinished pushed) ≡ result }
+    {
+        matches!(self.state, State::Plain | State::Quoting)
+    }
+
+    /// The last body without its nullifier, right after a push that answered `Body`: 4 bytes, or 8 to 1,008.
+    pub fn content(&self) -> &[u8]
+        requires { HoldsContent self.now }
+        ensures value { result.now ≡ self.now.content }
+        ensures size { IsContentSize (length result.now) }
+    {
+        &self.body[..self.length - 2]
+    }
+
+    // A byte of what is passed over.
+    fn pass(&mut self, byte: u8) -> Heard
+        requires { self.old.count < 2 ^ 62 }
+        ensures after { self.new ≡ (passed self.old byte).after }
+        ensures heard { result ≡ (passed self.old byte).heard }
+    {
+        self.count += 1;
+        if byte == FLAG {
+            self.state = State::Between;
+        } else {
+            self.state = State::Skipping;
+        }
+        Heard::Nothing
+    }
+
+    // A byte behind a flag byte: a further flag byte, or the first byte of a piece.
+    fn begin(&mut self, byte: u8) -> Heard
+        requires { self.old.count < 2 ^ 62 }
+        ensures after { self.new ≡ (begun self.old byte).after }
+        ensures heard { result ≡ (begun self.old byte).heard }
+    {
+        if byte == FLAG {
+            self.state = State::Between;
+            self.count += 1;
+            return Heard::Nothing;
+        }
+        self.state = State::Plain;
+        self.piece = self.count;
+        self.length = 0;
+        self.signer = Signer::new(START);
+        self.go_on(byte)
+    }
+
+    // A byte of a piece that isn't behind the quote byte.
+    fn go_on(&mut self, byte: u8) -> Heard
+        requires { self.old.count < 2 ^ 62 }
+        ensures after { self.new ≡ (gone_on self.old byte).after }
+        ensures heard { result ≡ (gone_on self.old byte).heard }
+    {
+        if byte == FLAG {
+            self.end()
+        } else if byte == QUOTE {
+            self.state = State::Quoting;
+            self.count += 1;
+            Heard::Nothing
+        } else {
+            self.keep(byte)
+        }
+    }
+
+    // A byte behind the quote byte.
+    fn unquote(&mut self, byte: u8) -> Heard
+        requires { self.old.count < 2 ^ 62 }
+        ensures after { self.new ≡ (unquoted_by self.old byte).after }
+        ensures heard { result ≡ (unquoted_by self.old byte).heard }
+    {
+        if byte == QUOTED_QUOTE {
+            return self.keep(QUOTE);
+        }
+        if byte == QUOTED_FLAG {
+            return self.keep(FLAG);
+        }
+        self.state = if byte == FLAG {
+            State::Between
+        } else {
+            State::Skipping
+        };
+        self.bad(Why::Quote)
+    }
+
+    // One more body byte.
+    fn keep(&mut self, byte: u8) -> Heard
+        requires { self.old.count < 2 ^ 62 }
+        ensures after { self.new ≡ (kept self.old byte).after }
+        ensures heard { result ≡ (kept self.old byte).heard }
+    {
+        if self.length >= BODY_MAX {
+            self.state = State::Skipping;
+            return self.bad(Why::Long);
+        }
+        self.body[self.length] = byte;
+        self.length += 1;
+        self.signer = self.signer.step(byte);
+        self.state = State::Plain;
+        self.count += 1;
+        Heard::Nothing
+    }
+
+    // The flag byte that ends a piece.
+    fn end(&mut self) -> Heard
+        requires { self.old.count < 2 ^ 62 }
+        ensures after { self.new ≡ (ended self.old).after }
+        ensures heard { result ≡ (ended self.old).heard }
+    {
+        self.state = State::Between;
+        if self.length < 10 && self.length != 6 {
+            return self.bad(Why::Short);
+        }
+        if !self.signer.is_zero() {
+            return self.bad(Why::Signature);
+        }
+        self.state = State::Whole;
+        self.count += 1;
+        Heard::Body { at: self.piece }
+    }
+
+    // The pushed byte is where the piece goes wrong.
+    fn bad(&mut self, why: Why) -> Heard
+        requires { self.old.count < 2 ^ 62 }
+        ensures after { self.new ≡ (turned self.old self.old.state (Heard.Bad self.old.count why)).after }
+        ensures heard { result ≡ Heard.Bad self.old.count why }
+    {
+        let at = self.count;
+        self.count += 1;
+        Heard::Bad { at, why }
+    }
+
+    // Body bytes that stand for themselves, as far as there is room for them.
+    fn take_body(&mut self, bytes: &[u8]) -> usize
+        requires state { self.old.state ≡ State.Plain }
+        requires count { self.old.count + length bytes.now ≤ 2 ^ 62 }
+        ensures front { result ≤ length bytes.now }
+        ensures plain { All IsPlain (take result bytes.now) }
+        ensures room { length self.old.body + result ≤ 1010 }
+        ensures after { self.new ≡ hearing self.old.state (self.old.count + result) self.old.piece (self.old.body ++ take result bytes.now) }
+    {
+        let n = copy_plain(bytes, &mut self.body[self.length..], &mut self.signer);
+        self.length += n;
+        self.count += n as u64;
+        n
+    }
+
+    // Bytes up to the next flag byte.
+    fn skip(&mut self, bytes: &[u8]) -> usize
+        requires { self.old.count + length bytes.now ≤ 2 ^ 62 }
+        ensures front { result ≤ length bytes.now }
+        ensures no_flag { HasNoFlag (take result bytes.now) }
+        ensures after { self.new ≡ hearing self.old.state (self.old.count + result) self.old.piece self.old.body }
+    {
+        let n = bytes
+            .iter()
+            .position(|byte| *byte == FLAG)
+            .unwrap_or(bytes.len());
+        self.count += n as u64;
+        n
+    }
+}

@@ -1,0 +1,74 @@
+ghost use Rattle.std.specs.Prelude.{◌≡◌, ℕ, ◌<◌, ◌≤◌, min, length, IfOk, Some, is_err};
+ghost use Rattle.pb_io.specs.Calls.{is_listed, after_call, no_calls};
+ghost use Rattle.pb_io.specs.Faults.{HasCause};
+ghost use Rattle.pb_io.specs.Source.{Reads};
+
+use crate::fault_plan::FaultPlan;
+use crate::{Failed, Source};
+use pb_base::Memory;
+use std::alloc::Global;
+use std::marker::Model;
+
+/// Bytes in memory, given in pieces of a bounded length, with faults at calls of choice.
+#[derive(Drop)]
+pub struct MemSource {
+    bytes: Vec<u8>,
+    at: usize,
+    piece: usize,
+    plan: FaultPlan,
+}
+
+impl Model for MemSource {
+    ghost use Rattle.std.specs.Prelude.{◌≤◌, length, drop};
+    ghost use Rattle.pb_io.specs.InMemory.{Supply};
+
+    ghost Value = { Supply };
+
+    ghost view = { λ s. record { left = drop s.at s.bytes.items; piece = s.piece; calls = s.plan } };
+
+    ghost invariant = { λ s. (s.at ≤ length s.bytes.items) × (1 ≤ s.piece) };
+}
+
+impl MemSource {
+    /// A source that gives `bytes`, at most `piece` of them with each read. The reads whose numbers, from 0, stand
+    /// in `fails` fail; they count too.
+    pub fn new(
+        alloc: Global,
+        bytes: &[u8],
+        piece: usize,
+        fails: &[u64],
+    ) -> Result<MemSource, Memory>
+        requires { 1 ≤ piece }
+        ensures { IfOk result (λ s. s ≡ record { left = bytes.now; piece = piece; calls = no_calls fails.now }) }
+    {
+        Ok(MemSource {
+            bytes: Vec::from_slice(alloc, bytes).map_err(|_| Memory)?,
+            at: 0,
+            piece,
+            plan: FaultPlan::new(alloc, fails).map_err(|_| Memory)?,
+        })
+    }
+}
+
+impl Source for MemSource {
+    ghost left = { λ s. Some s.left };
+
+    ghost read_faults = { λ s. s.calls.faults };
+
+    fn read(&mut self, to: &mut [u8]) -> Result<usize, Failed>
+        ensures bound { IfOk result (λ n. n ≤ length to.old) }
+        ensures bytes { Reads (Some self.old.left) (Some self.new.left) to.new result }
+        ensures cause { HasCause self.old.calls.faults self.new.calls.faults result }
+        ensures listed { is_err result ≡ is_listed self.old.calls }
+        ensures taken { IfOk result (λ n. n ≡ min self.old.piece (min (length to.old) (length self.old.left))) }
+        ensures piece { self.new.piece ≡ self.old.piece }
+        ensures calls { self.new.calls ≡ after_call self.old.calls (is_err result) }
+    {
+        self.plan.call()?;
+        let rest = &self.bytes[self.at..];
+        let n = self.piece.min(to.len()).min(rest.len());
+        to[..n].copy_from_slice(&rest[..n]);
+        self.at += n;
+        Ok(n)
+    }
+}

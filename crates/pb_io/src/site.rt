@@ -1,0 +1,35 @@
+ghost use Rattle.std.specs.Prelude.{◌≡◌, ℕ, ◌<◌, ◌≤◌, length, IfOk};
+ghost use Rattle.pb_io.specs.Disk.{Looks};
+ghost use Rattle.pb_io.specs.Faults.{HasCause};
+ghost use Rattle.pb_io.specs.Site.{Sends, Receives, Ticks};
+ghost use Rattle.pb_io.specs.Told.{Elapses};
+
+use crate::{Disk, Failed};
+
+/// A disk and a link to the stations. The world grows at its end, by link calls alone; one that a site knows tells
+/// the frames sent, the bytes heard and the quiet ticks in their order, and the stations' history where it knows that.
+///
+/// `quiets` of what it tells counts the quiet ticks; it doesn't fall, and stands still at 2^64 - 1.
+pub trait Site: Disk {
+    /// Sends a frame that isn't empty. Where it fails, the frame may have been sent or not.
+    fn send(&mut self, frame: &[u8]) -> Result<(), Failed>
+        requires { 0 < length frame.now }
+        ensures world { Sends (Self.told self.old).link.world (Self.told self.new).link.world frame.now result }
+        ensures quiets { (Self.told self.new).link.quiets ≡ (Self.told self.old).link.quiets }
+        ensures disk { Looks (Self.told self.old) (Self.told self.new) }
+        ensures disk_faults { (Self.told self.new).faults ≡ (Self.told self.old).faults }
+        ensures time { Elapses (Self.told self.old) (Self.told self.new) }
+        ensures cause { HasCause (Self.told self.old).link.faults (Self.told self.new).link.faults result };
+
+    /// Gives the bytes that came, at most as many as `to`, which isn't empty, has room for; 0 for a tick in which
+    /// nothing came. The end of a stream is a call that fails.
+    fn recv(&mut self, to: &mut [u8]) -> Result<usize, Failed>
+        requires { 0 < length to.old }
+        ensures bound { IfOk result (λ n. n ≤ length to.old) }
+        ensures world { Receives (Self.told self.old).link.world (Self.told self.new).link.world to.new result }
+        ensures quiets { Ticks (Self.told self.old).link.quiets (Self.told self.new).link.quiets result }
+        ensures disk { Looks (Self.told self.old) (Self.told self.new) }
+        ensures disk_faults { (Self.told self.new).faults ≡ (Self.told self.old).faults }
+        ensures time { Elapses (Self.told self.old) (Self.told self.new) }
+        ensures cause { HasCause (Self.told self.old).link.faults (Self.told self.new).link.faults result };
+}

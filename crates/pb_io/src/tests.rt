@@ -1,0 +1,51 @@
+use super::*;
+use pb_base::Memory;
+use std::alloc::Global;
+use std::test::Fail;
+
+// Copies seven bytes in pieces of at most three through a room of four, with a fault at one read and one write.
+fn copied(
+    alloc: Global,
+    read_fault: u64,
+    write_fault: u64,
+    limit: u64,
+) -> Result<(Result<u64, CopyFault>, MemSink), Memory> {
+    let mut source = MemSource::new(alloc, b"PakBus!", 3, &[read_fault])?;
+    let mut sink = MemSink::new(alloc, &[write_fault])?;
+    let result = copy_all(&mut source, &mut sink, &mut [0; 4], limit);
+    Ok((result, sink))
+}
+
+const NEVER: u64 = 99;
+
+#[test]
+fn a_source_in_memory_goes_to_a_sink_in_memory(rt: HostRuntime) -> Result<(), Fail> {
+    for (read_fault, write_fault, limit, result, bytes) in [
+        (NEVER, NEVER, 7, Ok(7), b"PakBus!".as_slice()),
+        (NEVER, NEVER, 6, Err(CopyFault::TooLong), b"PakBus"),
+        (3, NEVER, 7, Err(CopyFault::Read), b"PakBus!"),
+        (1, NEVER, 7, Err(CopyFault::Read), b"Pak"),
+        (NEVER, 1, 7, Err(CopyFault::Write), b"Pak"),
+        (0, 0, 0, Err(CopyFault::Read), b""),
+    ] {
+        let (was, sink) = copied(rt.alloc(), read_fault, write_fault, limit)?;
+        assert_eq!(rt; was, result);
+        assert_eq!(rt; sink.bytes(), bytes);
+    }
+    Ok(())
+}
+
+#[test]
+fn calls_that_are_not_built_fail(rt: HostRuntime) -> Result<(), Fail> {
+    let alloc = rt.alloc();
+    let disk = MemDisk::new(alloc, b"kept", &[])?;
+    assert_eq!(rt; disk.bytes(), b"kept".as_slice());
+    let mut site = MemSite::new(alloc, disk, &[])?;
+    assert_eq!(rt; site.len(), Err(Failed));
+    assert_eq!(rt;
+        send_and_recv(&mut site, b"frame", &mut [0; 4]),
+        Err(Failed)
+    );
+    assert_eq!(rt; write_settled(&mut site, 0, b"new"), Err(Failed));
+    Ok(())
+}
