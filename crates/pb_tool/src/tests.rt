@@ -1,0 +1,128 @@
+ghost use Rattle.std.specs.Prelude.{◌≤◌};
+
+use crate::{Status, run};
+use pb_io::{MemDisk, MemSink, MemSite, MemSource};
+use std::alloc::Global;
+use std::test::Fail;
+
+// Runs words over an input in memory; the reads and writes whose numbers are given fail.
+fn ran(
+    alloc: Global,
+    words: &[&str],
+    input: (&[u8], usize, &[u64]),
+    write_fails: &[u64],
+) -> Result<(Status, Vec<u8>), Fail>
+    requires { 1 ≤ input.1 }
+{
+    let mut all = Vec::new(alloc);
+    for word in words {
+        all.push(String::from_str(alloc, word)?)?;
+    }
+    let mut site = MemSite::new(alloc, MemDisk::new(alloc, &[], &[])?, &[])?;
+    let mut source = MemSource::new(alloc, input.0, input.1, input.2)?;
+    let mut sink = MemSink::new(alloc, write_fails)?;
+    let status = run(alloc, &all, &mut site, &mut source, &mut sink);
+    Ok((status, Vec::from_slice(alloc, sink.bytes())?))
+}
+
+const SHOW: &[&str] = &["-", "-", "show"];
+
+const RING: &[u8] = b"\xBD\x90\x01\x0F\xFE\x71\xD2\xBD";
+
+const RING_TWICE: &[u8] = b"\xBD\x90\x01\x0F\xFE\x71\xD2\xBD\x90\x01\x0F\xFE\x71\xD2\xBD";
+
+#[test]
+fn shows_each_form_of_line(rt: HostRuntime) -> Result<(), Fail> {
+    let table: [(&[u8], &[u8], Status); 11] = [
+        (RING, b"1 ring 4094>1 more 0 pri 0\n", Status::Done),
+        (
+            b"\xBD\xA0\x01\x9F\xFE\x00\x01\x0F\xFE\x09\x01\x00\x02\x07\x08\xE8\x1F\xBD",
+            b"1 ready 4094>1 more 2 pri 1 pakctrl 4094>1 hops 0 bytes 090100020708\n",
+            Status::Done,
+        ),
+        (
+            b"\xBD\xA0\x01\x9F\xFE\x00\x01\x0F\xFE\x09\x01\x00\x02\x07\x08\xE8\x1E\xBD\x90\x01\x0F\xFE\x71\xD2\xBD",
+            b"1 bad signature at 17\n18 ring 4094>1 more 0 pri 0\n",
+            Status::Format,
+        ),
+        (
+            b"\xBD\x90\xBC\xDC\x0F\xBC\xDD\x2C\x6B\xBD",
+            b"1 ring 4029>188 more 0 pri 0\n",
+            Status::Done,
+        ),
+        (
+            RING_TWICE,
+            b"1 ring 4094>1 more 0 pri 0\n8 ring 4094>1 more 0 pri 0\n",
+            Status::Done,
+        ),
+        (b"\x01\x02", b"", Status::Done),
+        (b"\xBD\x90", b"1 unfinished\n", Status::Format),
+        (
+            b"\xBD\xBC\xBD\x90\x01\x0F\xFE\x71\xD2\xBD",
+            b"1 bad quote at 2\n3 ring 4094>1 more 0 pri 0\n",
+            Status::Format,
+        ),
+        (
+            b"\xBD\x70\x01\x0F\xFE\x1A\x56\xBD",
+            b"1 bad packet state 7\n",
+            Status::Format,
+        ),
+        (
+            b"\xBD\xA0\x01\x9F\xFE\x00\x01\x00\x00\xF9\x81\xBD",
+            b"1 bad packet address 3\n",
+            Status::Format,
+        ),
+        (
+            b"\xBD\xA0\x01\x9F\xFE\x00\x01\x0F\xFE\xB1\x65\xBD",
+            b"1 ready 4094>1 more 2 pri 1 pakctrl 4094>1 hops 0 bytes -\n",
+            Status::Done,
+        ),
+    ];
+    for (input, text, status) in table {
+        for piece in [6, 1000] {
+            let (ended, written) = ran(rt.alloc(), SHOW, (input, piece, &[]), &[])?;
+            assert_eq!(rt; written.as_slice(), text);
+            assert_eq!(rt; ended, status);
+        }
+    }
+    Ok(())
+}
+
+#[test]
+fn ends_at_faults_behind_whole_lines(rt: HostRuntime) -> Result<(), Fail> {
+    let (status, written) = ran(rt.alloc(), SHOW, (RING, 8, &[0]), &[])?;
+    assert_eq!(rt; written.as_slice(), b"pakbus: read fault\n".as_slice());
+    assert_eq!(rt; status, Status::ReadFault);
+
+    let (status, written) = ran(rt.alloc(), SHOW, (RING_TWICE, 8, &[1]), &[])?;
+    assert_eq!(rt;
+        written.as_slice(),
+        b"1 ring 4094>1 more 0 pri 0\npakbus: read fault\n".as_slice()
+    );
+    assert_eq!(rt; status, Status::ReadFault);
+
+    let (status, written) = ran(rt.alloc(), SHOW, (RING, 8, &[]), &[0])?;
+    assert_eq!(rt; written.len(), 0);
+    assert_eq!(rt; status, Status::WriteFault);
+    Ok(())
+}
+
+#[test]
+fn refuses_words_that_are_not_listed(rt: HostRuntime) -> Result<(), Fail> {
+    let table: [&[&str]; 6] = [
+        &["-"],
+        &["-", "-"],
+        &["-", "-", "show", "x"],
+        &["-", "-", "collect", "0"],
+        &["-", "-", "export", "a", "T", "5", "2"],
+        &["-", "-", "ping", "7", "7"],
+    ];
+    for words in table {
+        let (status, written) = ran(rt.alloc(), words, (RING, 8, &[]), &[])?;
+        assert_eq!(rt; written.as_slice(), b"pakbus: usage\n".as_slice());
+        assert_eq!(rt; status, Status::Usage);
+    }
+    let (status, _) = ran(rt.alloc(), &["-"], (RING, 8, &[]), &[0])?;
+    assert_eq!(rt; status, Status::WriteFault);
+    Ok(())
+}
