@@ -1,8 +1,10 @@
 //! Numbers, names, and the readers of fields that every layer above shares.
 #![tactic(auto)]
 
+mod fields;
 mod node;
 mod refusal;
 
+pub use fields::{FieldFault, Fields};
 pub use node::NodeId;
 pub use refusal::{Full, Memory};
