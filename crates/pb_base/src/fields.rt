@@ -1,7 +1,9 @@
 ghost use Rattle.std.specs.Prelude.{◌≡◌, ℕ, ◌+◌, ◌<◌, ◌^◌, List, length, Ok, Err, IfOk, IfErr, ◌==◌, position};
 ghost use Rattle.std.specs.Int.{w8, w16, w32};
 ghost use Rattle.pb_base.specs.Fields.{Unread, bytes_at, number_at, text_at};
+ghost use Rattle.pb_base.specs.Time.{time_at};
 
+use crate::nsec::Nsec;
 use std::marker::Model;
 
 /// A field can't be read.
@@ -95,6 +97,18 @@ impl<'a> Fields<'a> {
     {
         let field = self.take(4)?;
         Ok(u32::from_be_bytes([field[0], field[1], field[2], field[3]]))
+    }
+
+    /// The next eight bytes, as a time.
+    pub fn nsec(&mut self) -> Result<Nsec, FieldFault>
+        ensures read { IfOk result (λ time. time_at self.old ≡ Ok (time, self.new)) }
+        ensures refused { IfErr result (λ fault. (time_at self.old ≡ Err fault) × (self.new ≡ self.old)) }
+    {
+        let field = self.take(8)?;
+        Ok(Nsec {
+            sec: u32::from_be_bytes([field[0], field[1], field[2], field[3]]).cast_signed(),
+            nano: u32::from_be_bytes([field[4], field[5], field[6], field[7]]).cast_signed(),
+        })
     }
 
     /// The text up to the next zero byte, which is read too and isn't part of it.

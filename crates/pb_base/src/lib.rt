@@ -3,8 +3,12 @@
 
 mod fields;
 mod node;
+mod nsec;
+mod put;
 mod refusal;
 
 pub use fields::{FieldFault, Fields};
 pub use node::NodeId;
+pub use nsec::Nsec;
+pub use put::Put;
 pub use refusal::{Full, Memory};
