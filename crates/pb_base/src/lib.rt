@@ -2,12 +2,14 @@
 #![tactic(auto)]
 
 mod fields;
+mod message;
 mod node;
 mod nsec;
 mod put;
 mod refusal;
 
 pub use fields::{FieldFault, Fields};
+pub use message::MessageFault;
 pub use node::NodeId;
 pub use nsec::Nsec;
 pub use put::Put;
