@@ -1,5 +1,5 @@
 -- What a reader of fields finds at the front of the bytes that it has left.
-use Rattle.std.specs.Prelude.{ℕ, ◌+◌, List, length, take, drop, Option, Some, None, Result, Ok, Err, nat_lt, ◌==◌, if◌then◌else◌, position}
+use Rattle.std.specs.Prelude.{ℕ, ◌+◌, ◌<◌, List, length, take, drop, Option, Some, None, Result, Ok, Err, nat_lt, ◌==◌, if◌then◌else◌, position, slice_index}
 use Rattle.std.specs.Int.{Width, byte_len, from_be_bytes}
 use Rattle.pb_base.specs.declared.fields.FieldFault.{FieldFault}
 use Rattle.pb_base.specs.declared.fields.FieldFault.TheVariants.{Short, NoEnd}
@@ -8,6 +8,10 @@ use Rattle.pb_base.specs.declared.fields.FieldFault.TheVariants.{Short, NoEnd}
 pub record Unread : Type 0 where
   pub at : ℕ
   pub rest : List ℕ
+
+-- each is a byte
+abbrev pub IsBytes : List ℕ → Type 0
+IsBytes bytes = (i : ℕ) → slice_index bytes i < 256
 
 -- the slice's length
 abbrev pub end : Unread → ℕ
