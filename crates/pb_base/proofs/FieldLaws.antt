@@ -127,3 +127,11 @@ byte-takes u n v fits e =
 pub byte-again : (at n : ℕ) (rest : List ℕ) → n < 2 ^ 8 → number_at w8 (record { at = at; rest = n ∷ rest }) ≡ Ok (n, record { at = at + 1; rest = rest })
 byte-again at n rest lt =
     subst (λ (x : List ℕ). number_at w8 (record { at = at; rest = x ++ rest }) ≡ Ok (n, record { at = at + 1; rest = rest })) (byte_is n lt) (number-again w8 (2 ^ 8) wide8 at n rest lt)
+
+-- one field behind another
+pub Takes-then : (a b c : Unread) (x y : List ℕ) → Takes a x b → Takes b y c → Takes a (x ++ y) c
+Takes-then a b c x y p q = record {
+  bytes = p.bytes ∙ ap (λ (t : List ℕ). x ++ t) q.bytes ∙ sym (append_assoc x y c.rest);
+  at = omega (arith, p.at, q.at, length-append x y);
+  rest = q.rest;
+}
