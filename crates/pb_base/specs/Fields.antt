@@ -9,6 +9,10 @@ pub record Unread : Type 0 where
   pub at : ℕ
   pub rest : List ℕ
 
+-- all of the bytes, before anything was read
+abbrev pub whole : List ℕ → Unread
+whole bytes = record { at = 0; rest = bytes }
+
 -- each is a byte
 abbrev pub IsBytes : List ℕ → Type 0
 IsBytes bytes = (i : ℕ) → slice_index bytes i < 256

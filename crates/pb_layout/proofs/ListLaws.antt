@@ -85,7 +85,7 @@ setting-takes u w fits e =
     let s : Setting = record { number = a.0.0; content = c.0.0 } in
     let len : b.0.0 ≡ length c.0.0 = sym r.1 in
     let second : Takes a.0.1 (to_be_bytes w16 (length c.0.0)) b.0.1 = subst (λ (n : ℕ). Takes a.0.1 (to_be_bytes w16 n) b.0.1) len q.0 in
-    let whole : Takes u (setting_bytes s) c.0.1 = Takes-then u a.0.1 c.0.1 _ _ p.0 (Takes-then a.0.1 b.0.1 c.0.1 _ _ second r.0) in
+    let whole : Takes u (setting_bytes s) c.0.1 = Takes-then u a.0.1 c.0.1 (to_be_bytes w16 a.0.0) (to_be_bytes w16 (length c.0.0) ++ c.0.0) p.0 (Takes-then a.0.1 b.0.1 c.0.1 (to_be_bytes w16 (length c.0.0)) c.0.0 second r.0) in
     (s, record { number = p.1; content = omega (arith, q.1, len) }, subst (λ (v : Unread). Takes u (setting_bytes s) v) (ok_is c.0.1 w c.2) whole)
 
 four_at_least : (s : Setting) (rest : List ℕ) → 4 + length rest ≤ length (setting_bytes s ++ rest)
