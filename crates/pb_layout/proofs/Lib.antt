@@ -2,3 +2,4 @@ pub mod Steps
 pub mod ListLaws
 pub mod KeyLaws
 pub mod LayoutLaws
+pub mod PieceLaws

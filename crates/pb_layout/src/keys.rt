@@ -118,4 +118,22 @@ impl<'a> Keys<'a> {
             Err(_) => Err(MessageFault::Malformed { at }),
         }
     }
+
+    /// All of the bytes that are left.
+    #[tactic(auto, unfolding(crate::specs::Reading::key_at))]
+    pub fn rest(&mut self) -> &'a [u8]
+        ensures { key_at Rest self.old ≡ Ok (result.now, self.new) }
+    {
+        let len = self.fields.rest().len();
+        self.fields.take(len).unwrap()
+    }
+
+    /// The next bytes, as many as there are, but not more than `most`.
+    #[tactic(auto, unfolding(crate::specs::Reading::key_at))]
+    pub fn at_most(&mut self, most: usize) -> &'a [u8]
+        ensures { key_at (AtMost most) self.old ≡ Ok (result.now, self.new) }
+    {
+        let len = most.min(self.fields.rest().len());
+        self.fields.take(len).unwrap()
+    }
 }

@@ -2,5 +2,7 @@
 #![tactic(auto)]
 
 mod keys;
+mod pieces;
 
 pub use keys::Keys;
+pub use pieces::{Piece, write_pieces};
