@@ -36,15 +36,15 @@ text-takes u x v fits e =
     let within : n < length u.rest = ltb-true _ _ g.0 in
     let found : get_or u.rest n 0 ≡ 0 = eqb-true _ _ (passes_at_first is_zero u.rest 0 within) in
     let parts : u.rest ≡ (take n u.rest ++ 0 ∷ []) ++ drop (n + 1) u.rest =
-        split_at_first is_zero u.rest 0 within ∙ ap (λ (b : ℕ). take n u.rest ++ b ∷ drop (n + 1) u.rest) found ∙ sym (append_assoc (take n u.rest) (0 ∷ []) (drop (n + 1) u.rest)) in
+    split_at_first is_zero u.rest 0 within ∙ ap (λ (b : ℕ). take n u.rest ++ b ∷ drop (n + 1) u.rest) found ∙ sym (append_assoc (take n u.rest) (0 ∷ []) (drop (n + 1) u.rest)) in
     let takes : Takes u (take n u.rest ++ 0 ∷ []) (behind (n + 1) u) = record {
       bytes = parts;
       at = ap (λ (k : ℕ). u.at + k) (omega (arith, length-append (take n u.rest) (0 ∷ []), length-take n u.rest));
       rest = IsBytes-drop (n + 1) u.rest fits;
     } in
     let zeros : All (λ b. 0 < b) (take n u.rest) = λ k d lt.
-      let below : k < n = omega (arith, length-take n u.rest) in
-      rw (get_or-take n u.rest k d below) (not_zero _ (fails_before_first is_zero u.rest k d below)) in
+    let below : k < n = omega (arith, length-take n u.rest) in
+    rw (get_or-take n u.rest k d below) (not_zero _ (fails_before_first is_zero u.rest k d below)) in
     (rw (← g.1, ← g.2) takes, rw (← g.1) zeros)
 
 pub text-again : (at : ℕ) (x rest : List ℕ) → All (λ b. 0 < b) x
@@ -53,13 +53,13 @@ text-again at x rest nonzero =
     let bytes : List ℕ = x ++ 0 ∷ rest in
     let len : length bytes ≡ length x + length (0 ∷ rest) = length-append x (0 ∷ rest) in
     let first : position_or_len is_zero bytes ≡ length x =
-        position_or_len_is is_zero bytes (length x) 0 (omega (arith, len))
-          (λ k lt. rw (get_or_append_left x (0 ∷ rest) 0 k lt) (ne_eqb _ 0 (λ z. omega (arith, z, nonzero k 0 lt))))
-          (λ lt. rw (get_or_at x 0 rest 0 (length x) refl) refl) in
+    position_or_len_is is_zero bytes (length x) 0 (omega (arith, len))
+    (λ k lt. rw (get_or_append_left x (0 ∷ rest) 0 k lt) (ne_eqb _ 0 (λ z. omega (arith, z, nonzero k 0 lt))))
+    (λ lt. rw (get_or_at x 0 rest 0 (length x) refl) refl) in
     let within : ltb (length x) (length bytes) ≡ true = lt-ltb _ _ (omega (arith, len)) in
     let dropped : drop (length x + 1) bytes ≡ rest = ap (drop (length x + 1)) (sym (append_assoc x (0 ∷ []) rest)) ∙ drop_at (x ++ 0 ∷ []) rest (length x + 1) (length-append x (0 ∷ [])) in
     ap (λ (b : List ℕ). text_at (record { at = at; rest = b })) (append_assoc x (0 ∷ []) rest)
-      ∙ rw (first, within, take_at x (0 ∷ rest) (length x) refl, dropped) refl
+    ∙ rw (first, within, take_at x (0 ∷ rest) (length x) refl, dropped) refl
 
 -- ---- times
 
@@ -104,10 +104,11 @@ time-takes u t v fits e =
     let g = time_ok u (ltb (length u.rest) 8) t v e in
     let long : 8 ≤ length u.rest = ltb-false _ _ g.0 in
     let takes : Takes u (time_bytes (time_of field)) (behind 8 u) =
-        subst (λ (x : List ℕ). Takes u x (behind 8 u)) (sym (time_there field (omega (arith, length-take 8 u.rest)) fits-field)) (front-takes 8 u fits long) in
-    (rw (← g.1, ← g.2) takes,
-     rw (← g.1) (fits_below _ (wide32.below (take 4 field) (IsBytes-take 4 field fits-field))),
-     rw (← g.1) (fits_below _ (wide32.below (take 4 (drop 4 field)) (IsBytes-take 4 (drop 4 field) (IsBytes-drop 4 field fits-field)))))
+    subst (λ (x : List ℕ). Takes u x (behind 8 u)) (sym (time_there field (omega (arith, length-take 8 u.rest)) fits-field)) (front-takes 8 u fits long) in (
+      rw (← g.1, ← g.2) takes,
+      rw (← g.1) (fits_below _ (wide32.below (take 4 field) (IsBytes-take 4 field fits-field))),
+      rw (← g.1) (fits_below _ (wide32.below (take 4 (drop 4 field)) (IsBytes-take 4 (drop 4 field) (IsBytes-drop 4 field fits-field)))),
+    )
 
 abbrev later : ℕ → List ℕ → Unread
 later at rest = record { at = at + 8; rest = rest }

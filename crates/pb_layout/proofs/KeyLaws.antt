@@ -49,7 +49,7 @@ split-takes u p v fits e =
     let below : n < 2 ^ 16 = t.1 in
     let made : (ℕ × ℕ) × Unread = (split n, a.0.1) in
     subst (λ (q : (ℕ × ℕ) × Unread). Took Split u q.0 q.1) (ok_is made (p, v) a.2)
-      (record { takes = subst (λ (k : ℕ). Takes u (to_be_bytes w16 k) a.0.1) whole t.0; fits = (omega arith, omega arith); obeys = tt; follows = tt })
+    (record { takes = subst (λ (k : ℕ). Takes u (to_be_bytes w16 k) a.0.1) whole t.0; fits = (omega arith, omega arith); obeys = tt; follows = tt })
 
 all_taken : (u : Unread) → Takes u u.rest (behind (length u.rest) u) × (drop (length u.rest) u.rest ≡ [])
 all_taken u =
@@ -85,7 +85,7 @@ settings-takes u x v fits e =
     let a = and_ok (settings_at (length u.rest) u) after (x, v) e in
     let t = all_taken u in
     subst (λ (p : List ℕ × Unread). Took Settings u p.0 p.1) (ok_is made (x, v) a.2)
-      (record { takes = t.0; fits = tt; obeys = settings-take (length u.rest) u a.0 fits (omega arith) a.1; follows = t.1 })
+    (record { takes = t.0; fits = tt; obeys = settings-take (length u.rest) u a.0 fits (omega arith) a.1; follows = t.1 })
 
 pub key-takes : (k : Kind) (u : Unread) (v : Value k) (after : Unread) → IsBytes u.rest → key_at k u ≡ Ok (v, after) → Took k u v after
 unfolding key_at
@@ -139,7 +139,7 @@ split-again at p rest high low =
     let second : n % 4096 ≡ p.1 = omega arith in
     let after : ℕ × Unread → Result ((ℕ × ℕ) × Unread) MessageFault = λ m. Ok (split m.0, m.1) in
     ap (λ (r : Result (ℕ × Unread) FieldFault). and_then (field u r) after) (number-again w16 (2 ^ 16) wide16 at n rest (omega arith))
-      ∙ same_pair (n / 4096) p.0 (n % 4096) p.1 (stood Split at p rest) first second
+    ∙ same_pair (n / 4096) p.0 (n % 4096) p.1 (stood Split at p rest) first second
   where
     same_pair : (a b c d : ℕ) (v : Unread) → a ≡ b → c ≡ d → (let r : Result ((ℕ × ℕ) × Unread) MessageFault = Ok ((a, c), v) in r ≡ Ok ((b, d), v))
     same_pair a b c d v e f = rw (e, f) refl
@@ -155,10 +155,10 @@ front-again most at x rest le ends =
     let all : List ℕ = x ++ rest in
     let short : length x < most → length rest ≡ 0 = λ lt. ap length (ends lt) in
     let n-is : min most (length all) ≡ length x =
-        elim (cases_lt (length x) most) [
-          | inl lt ↦ omega (arith, short lt, length-append x rest)
-          | inr ge ↦ omega (arith, length-append x rest)
-        ] in
+    elim (cases_lt (length x) most) [
+      | inl lt ↦ omega (arith, short lt, length-append x rest)
+      | inr ge ↦ omega (arith, length-append x rest)
+    ] in
     let front : take most all ≡ x = sym (take_min most all) ∙ ap (λ (n : ℕ). take n all) n-is ∙ take_at x rest (length x) refl in
     rw (front, n-is, drop_at x rest (length x) refl) refl
 

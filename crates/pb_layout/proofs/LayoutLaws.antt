@@ -1,10 +1,11 @@
 -- What a layout reads is what its values spell, and what they spell is read again.
-use Rattle.std.proofs.Common.{◌≡◌, ℕ, ◌+◌, List, [], ◌++◌, length, Result, Ok, Err, refl, sym, ap, subst, ◌∙◌, append_assoc}
+use Rattle.std.proofs.Common.{◌≡◌, ℕ, ◌+◌, List, [], ◌++◌, length, Bool, true, false, eqb, Result, Ok, Err, IfOk, refl, sym, ap, subst, ◌∙◌, append_assoc}
+use Rattle.std.proofs.lemmas.Bool.{eqb-true}
 use Rattle.pb_base.specs.declared.message.MessageFault.{MessageFault}
 use Rattle.pb_base.specs.Fields.{Unread, IsBytes, whole}
 use Rattle.pb_layout.specs.Kind.{Kind, Value, spell, Fits, Obeys, MayFollow}
 use Rattle.pb_layout.specs.Layout.{MessageLayout, Done, Stop, Key, Values, made, spelled, AllFit, AllObey, MayEnd, IsValid, bytes_of, ReadsAs}
-use Rattle.pb_layout.specs.Reading.{and_then, key_at, reading}
+use Rattle.pb_layout.specs.Reading.{and_then, key_at, reading, Gives}
 use Rattle.pb_layout.proofs.Steps.{ok_is, and_ok}
 use Rattle.pb_layout.proofs.KeyLaws.{key-takes, key-again}
 
@@ -44,8 +45,8 @@ reading-again (Stop fault) at values rest fits obeys ends = absurd values
 reading-again (Key k next) at values rest fits obeys ends =
     let tail : List ℕ = spelled (next values.0) values.1 in
     ap (λ (b : List ℕ). reading (Key k next) (record { at = at; rest = b })) (append_assoc (spell k values.0) tail rest)
-      ∙ ap (λ (r : Result (Value k × Unread) MessageFault). and_then r (λ v. reading (next v.0) v.1)) (key-again k at values.0 (tail ++ rest) fits.0 obeys.0 ends.0)
-      ∙ reading-again (next values.0) (at + length (spell k values.0)) values.1 rest fits.1 obeys.1 ends.1
+    ∙ ap (λ (r : Result (Value k × Unread) MessageFault). and_then r (λ v. reading (next v.0) v.1)) (key-again k at values.0 (tail ++ rest) fits.0 obeys.0 ends.0)
+    ∙ reading-again (next values.0) (at + length (spell k values.0)) values.1 rest fits.1 obeys.1 ends.1
 
 -- What was read is the message that the bytes read as, where the message's keys are the values that make it.
 pub reading-found : {X : Type 0} (l : MessageLayout X) (keys : X → Values l) → ((values : Values l) → keys (made l values) ≡ values)
@@ -70,3 +71,27 @@ reading-only l keys bytes x r =
 pub written-reads : {X : Type 0} (l : MessageLayout X) (keys : X → Values l) (x : X) (rest : List ℕ) → IsValid l keys x → AllFit l (keys x) → MayEnd l (keys x) rest
     → ReadsAs l keys x (bytes_of l keys x ++ rest)
 written-reads l keys x rest valid fits ends = record { valid = valid; fits = fits; rest = rest; parts = refl; ends = ends }
+
+-- ---- the same of what a function answered
+
+pub found_by : {X Y : Type 0} (l : MessageLayout X) (keys : X → Values l) → ((values : Values l) → keys (made l values) ≡ values)
+    → (view : Y → X) (bytes : List ℕ) (r : Result Y MessageFault) → IsBytes bytes → Gives view r (reading l (whole bytes)) → IfOk r (λ y. ReadsAs l keys (view y) bytes)
+found_by l keys back view bytes (Ok y) fits e = reading-found l keys back bytes (view y) fits e
+found_by l keys back view bytes (Err fault) fits e = tt
+
+pub only_by : {X Y : Type 0} (l : MessageLayout X) (keys : X → Values l) (view : Y → X) (bytes : List ℕ) (r : Result Y MessageFault)
+    → Gives view r (reading l (whole bytes)) → (x : X) → ReadsAs l keys x bytes → Gives view r (Ok x)
+only_by l keys view bytes (Ok y) e x reads = sym (reading-only l keys bytes x reads) ∙ e
+only_by l keys view bytes (Err fault) e x reads = sym (reading-only l keys bytes x reads) ∙ e
+
+-- two messages that the same bytes read as are one
+pub one_message : {X : Type 0} (l : MessageLayout X) (keys : X → Values l) (bytes : List ℕ) (x y : X) → ReadsAs l keys x bytes → ReadsAs l keys y bytes → x ≡ y
+one_message l keys bytes x y p q = ok_is x y (sym (reading-only l keys bytes x p) ∙ reading-only l keys bytes y q)
+
+-- what holds of one type, and of any other, holds of each
+pub at_type : (P : ℕ → Type 0) (n type : ℕ) → P n → (eqb type n ≡ false → P type) → P type
+at_type P n type this other = go (eqb type n) refl
+  where
+    go : (b : Bool) → eqb type n ≡ b → P type
+    go true e = subst P (sym (eqb-true type n e)) this
+    go false e = other e

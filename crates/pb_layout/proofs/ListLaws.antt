@@ -115,8 +115,8 @@ setting-again at s rest is =
     let u1 : Unread = record { at = at + 2; rest = to_be_bytes w16 (length s.content) ++ tail } in
     let u2 : Unread = record { at = at + 2 + 2; rest = tail } in
     ap (λ (r : Result (ℕ × Unread) FieldFault). and_then (field u r) len_of) (number-again w16 (2 ^ 16) wide16 at s.number (to_be_bytes w16 (length s.content) ++ tail) is.number)
-      ∙ ap (λ (r : Result (ℕ × Unread) FieldFault). and_then (field u1 r) content_of) (number-again w16 (2 ^ 16) wide16 (at + 2) (length s.content) tail is.content)
-      ∙ ap (λ (r : Result (List ℕ × Unread) FieldFault). and_then (field u2 r) behind_it) (bytes-again (at + 2 + 2) s.content rest)
+    ∙ ap (λ (r : Result (ℕ × Unread) FieldFault). and_then (field u1 r) content_of) (number-again w16 (2 ^ 16) wide16 (at + 2) (length s.content) tail is.content)
+    ∙ ap (λ (r : Result (List ℕ × Unread) FieldFault). and_then (field u2 r) behind_it) (bytes-again (at + 2 + 2) s.content rest)
 
 settings_again : (settings : List Setting) (most at : ℕ) → AllByRecursion IsSetting settings → length (flat_map setting_bytes settings) ≤ most
     → (v : Unread) × (settings_at most (record { at = at; rest = flat_map setting_bytes settings }) ≡ Ok v)

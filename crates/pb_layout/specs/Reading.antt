@@ -69,3 +69,8 @@ unfoldable pub reading : {X : Type 0} → MessageLayout X → Unread → Result 
 reading (Done x) u = Ok x
 reading (Stop fault) u = Err fault
 reading (Key k next) u = and_then (key_at k u) (λ v. reading (next v.0) v.1)
+
+-- what a function answered, seen by the view, is what reading gives
+abbrev pub Gives : {X Y : Type 0} → (X → Y) → Result X MessageFault → Result Y MessageFault → Type 0
+Gives view (Ok x) read = read ≡ Ok (view x)
+Gives view (Err fault) read = read ≡ Err fault

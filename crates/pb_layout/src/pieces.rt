@@ -1,6 +1,6 @@
-ghost use Rattle.std.specs.Prelude.{◌≡◌, ℕ, ◌<◌, ◌≤◌, List, ◌++◌, length, drop, IfOk, OnOk, OnErr};
+ghost use Rattle.std.specs.Prelude.{◌≡◌, ℕ, ◌<◌, ◌≤◌, length, IfOk, OnOk, OnErr};
 ghost use Rattle.pb_base.specs.Put.{writing, Writes, LacksRoom};
-ghost use Rattle.pb_layout.specs.Pieces.{piece_bytes, pieces_bytes};
+ghost use Rattle.pb_layout.specs.Pieces.{piece_bytes, pieces_bytes, IsWritten, DoesNotFit};
 
 use pb_base::{Full, Nsec, Put};
 
@@ -22,8 +22,8 @@ pub enum Piece<'a> {
 /// Writes the pieces one behind another to the front of `out`, and answers how many bytes they have. Where they don't
 /// all fit nothing is written.
 pub fn write_pieces(pieces: &[Piece], out: &mut [u8]) -> Result<usize, Full>
-    ensures written { IfOk result (λ n. (n ≡ length (pieces_bytes pieces.now)) × (out.new ≡ pieces_bytes pieces.now ++ drop n out.old)) }
-    ensures full { OnErr result ((length out.old < length (pieces_bytes pieces.now)) × (out.new ≡ out.old)) }
+    ensures written { IfOk result (IsWritten (pieces_bytes pieces.now) out.old out.new) }
+    ensures full { OnErr result (DoesNotFit (pieces_bytes pieces.now) out.old out.new) }
 {
     let len = len_within(pieces, out.len())?;
     let mut put = Put::new(out);

@@ -1,0 +1,64 @@
+ghost use Rattle.std.specs.Prelude.{◌≡◌, Ok, Err, IfOk, IfErr};
+ghost use Rattle.pb_base.specs.Fields.{whole};
+ghost use Rattle.pb_layout.specs.Reading.{reading, Gives};
+ghost use Rattle.pb_ctrl.specs.Message.{Message, told, hello, hello_reply, layout, MessageReads};
+
+use crate::message::{Ctrl, HELLO, HELLO_REPLY};
+use pb_base::MessageFault;
+use pb_layout::Keys;
+
+/// Reads a PakCtrl message. Bytes behind a layout's end are passed over.
+pub fn read(message: &[u8]) -> Result<Ctrl, MessageFault>
+    // What was read is what the bytes read as.
+    ensures found { IfOk result (λ m. MessageReads (told m) message.now) }
+    // What the bytes read as is read.
+    ensures only { (m : Message) → MessageReads m message.now → Gives told result (Ok m) }
+    // A refusal is that of the first key that can't be read.
+    ensures refused { IfErr result (λ fault. reading layout (whole message.now) ≡ Err fault) }
+{
+    read_all(message)
+}
+
+#[tactic(auto, unfolding(pb_layout::specs::Reading::reading))]
+fn read_all(message: &[u8]) -> Result<Ctrl, MessageFault>
+    ensures { Gives told result (reading layout (whole message.now)) }
+{
+    let mut keys = Keys::new(message);
+    let kind = keys.byte()?;
+    let tran = keys.byte()?;
+    match kind {
+        HELLO => read_hello(tran, &mut keys),
+        HELLO_REPLY => read_hello_reply(tran, &mut keys),
+        _ => Err(MessageFault::UnknownType(kind)),
+    }
+}
+
+#[tactic(auto, unfolding(pb_layout::specs::Reading::reading))]
+fn read_hello(tran: u8, keys: &mut Keys) -> Result<Ctrl, MessageFault>
+    ensures { Gives told result (reading (hello tran) keys.old) }
+{
+    let router = keys.byte()?;
+    let metric = keys.byte()?;
+    let verify = keys.half()?;
+    Ok(Ctrl::Hello {
+        tran,
+        router,
+        metric,
+        verify,
+    })
+}
+
+#[tactic(auto, unfolding(pb_layout::specs::Reading::reading))]
+fn read_hello_reply(tran: u8, keys: &mut Keys) -> Result<Ctrl, MessageFault>
+    ensures { Gives told result (reading (hello_reply tran) keys.old) }
+{
+    let router = keys.byte()?;
+    let metric = keys.byte()?;
+    let verify = keys.half()?;
+    Ok(Ctrl::HelloReply {
+        tran,
+        router,
+        metric,
+        verify,
+    })
+}

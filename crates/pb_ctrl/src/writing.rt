@@ -1,0 +1,48 @@
+ghost use Rattle.std.specs.Prelude.{IfOk, OnErr};
+ghost use Rattle.pb_layout.specs.Pieces.{IsWritten, DoesNotFit};
+ghost use Rattle.pb_ctrl.specs.Message.{told, Valid, message_bytes};
+
+use crate::message::{Ctrl, HELLO, HELLO_REPLY};
+use pb_base::Full;
+use pb_layout::{Piece, write_pieces};
+
+/// Writes a PakCtrl message to the front of `out`, and answers how many bytes it has. Where it doesn't fit nothing is
+/// written.
+pub fn write(message: &Ctrl, out: &mut [u8]) -> Result<usize, Full>
+    requires { Valid (told message.now) }
+    ensures written { IfOk result (IsWritten (message_bytes (told message.now)) out.old out.new) }
+    ensures full { OnErr result (DoesNotFit (message_bytes (told message.now)) out.old out.new) }
+{
+    match *message {
+        Ctrl::Hello {
+            tran,
+            router,
+            metric,
+            verify,
+        } => write_pieces(
+            &[
+                Piece::Byte(HELLO),
+                Piece::Byte(tran),
+                Piece::Byte(router),
+                Piece::Byte(metric),
+                Piece::Half(verify),
+            ],
+            out,
+        ),
+        Ctrl::HelloReply {
+            tran,
+            router,
+            metric,
+            verify,
+        } => write_pieces(
+            &[
+                Piece::Byte(HELLO_REPLY),
+                Piece::Byte(tran),
+                Piece::Byte(router),
+                Piece::Byte(metric),
+                Piece::Half(verify),
+            ],
+            out,
+        ),
+    }
+}
