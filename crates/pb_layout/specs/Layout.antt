@@ -1,5 +1,5 @@
 -- Layouts of messages, and what it means that bytes are a message, or that they read as one.
-use Rattle.std.specs.Prelude.{◌≡◌, ℕ, List, [], ◌++◌}
+use Rattle.std.specs.Prelude.{◌≡◌, ℕ, zero, suc, List, [], ◌++◌}
 use Rattle.pb_base.specs.declared.message.MessageFault.{MessageFault}
 use Rattle.pb_layout.specs.Kind.{Kind, Value, spell, Fits, Obeys, MayFollow}
 
@@ -12,6 +12,11 @@ pub data MessageLayout (X : Type 0) : Type 0 where
 infixl 10 ◌>>=◌
 abbrev pub ◌>>=◌ : {X : Type 0} → (k : Kind) → (Value k → MessageLayout X) → MessageLayout X
 k >>= next = Key k next
+
+-- What comes behind a reply's code: the keys of an answer behind 0, else the end.
+abbrev pub answered : {X : Type 0} → ℕ → MessageLayout X → X → MessageLayout X
+answered zero answer refusal = answer
+answered (suc code) answer refusal = Done refusal
 
 -- the values of the keys, in their order
 abbrev pub Values : {X : Type 0} → MessageLayout X → Type 0
