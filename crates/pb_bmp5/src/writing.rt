@@ -1,5 +1,5 @@
 ghost use Rattle.std.specs.Prelude.{IfOk, OnErr};
-ghost use Rattle.pb_layout.specs.Pieces.{IsWritten, DoesNotFit};
+ghost use Rattle.pb_base.specs.Put.{IsWritten, DoesNotFit};
 ghost use Rattle.pb_bmp5.specs.Message.{ClockReply, told, Valid, message_bytes};
 
 use crate::message::{Bmp5, CLOCK, CLOCK_REPLY};

@@ -1,5 +1,5 @@
 ghost use Rattle.std.specs.Prelude.{IfOk, OnErr};
-ghost use Rattle.pb_layout.specs.Pieces.{IsWritten, DoesNotFit};
+ghost use Rattle.pb_base.specs.Put.{IsWritten, DoesNotFit};
 ghost use Rattle.pb_ctrl.specs.Message.{told, Valid, message_bytes};
 
 use crate::message::{Ctrl, HELLO, HELLO_REPLY};

@@ -1,5 +1,5 @@
 -- The bytes of pieces.
-use Rattle.std.specs.Prelude.{◌≡◌, ℕ, ◌<◌, List, [], ◌∷◌, ◌++◌, length, drop}
+use Rattle.std.specs.Prelude.{ℕ, List, [], ◌∷◌, ◌++◌}
 use Rattle.std.specs.List.{flat_map}
 use Rattle.std.specs.Int.{w16, w32, to_be_bytes}
 use Rattle.pb_base.specs.Time.{time_bytes}
@@ -14,13 +14,3 @@ piece_bytes (piece.TheVariants.Bytes bytes) = bytes.now
 
 abbrev pub pieces_bytes : List piece.Piece → List ℕ
 pieces_bytes pieces = flat_map piece_bytes pieces
-
--- The bytes stand at the front, n of them, and behind them stands what stood there.
-pub record IsWritten (bytes old new : List ℕ) (n : ℕ) : Type 0 where
-  pub len : n ≡ length bytes
-  pub parts : new ≡ bytes ++ drop n old
-
--- The bytes don't fit, and nothing was written.
-pub record DoesNotFit (bytes old new : List ℕ) : Type 0 where
-  pub short : length old < length bytes
-  pub unchanged : new ≡ old

@@ -1,6 +1,6 @@
 ghost use Rattle.std.specs.Prelude.{◌≡◌, ℕ, ◌<◌, ◌≤◌, length, IfOk, OnOk, OnErr};
-ghost use Rattle.pb_base.specs.Put.{writing, Writes, LacksRoom};
-ghost use Rattle.pb_layout.specs.Pieces.{piece_bytes, pieces_bytes, IsWritten, DoesNotFit};
+ghost use Rattle.pb_base.specs.Put.{writing, Writes, LacksRoom, IsWritten, DoesNotFit};
+ghost use Rattle.pb_layout.specs.Pieces.{piece_bytes, pieces_bytes};
 
 use pb_base::{Full, Nsec, Put};
 

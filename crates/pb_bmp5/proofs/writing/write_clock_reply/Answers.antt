@@ -1,5 +1,5 @@
 use Rattle.std.proofs.Common.{IfOk, OnErr}
-use Rattle.pb_layout.specs.Pieces.{IsWritten, DoesNotFit}
+use Rattle.pb_base.specs.Put.{IsWritten, DoesNotFit}
 use Rattle.pb_bmp5.proofs.MessageLaws.{answer_bytes, refusal_bytes}
 use Rattle.pb_bmp5.proofs.writing.write_clock_reply.Goals as goal
 
