@@ -11,7 +11,7 @@ use Rattle.std.proofs.lemmas.Int.{to_z-of_z, of_z-to_z}
 use Rattle.pb_base.specs.declared.fields.FieldFault.{FieldFault}
 use Rattle.pb_base.specs.declared.fields.FieldFault.TheVariants.{Short, NoEnd}
 use Rattle.pb_base.specs.declared.nsec.Nsec.{Nsec}
-use Rattle.pb_base.specs.Fields.{Unread, IsBytes, end, behind, bytes_at, number_at, text_before, text_at}
+use Rattle.pb_base.specs.Fields.{Unread, IsBytes, Takes, end, behind, bytes_at, number_at, text_before, text_at}
 use Rattle.pb_base.specs.Time.{time_bytes, time_of, time_at}
 
 pub IsBytes-drop : (n : ℕ) (bytes : List ℕ) → IsBytes bytes → IsBytes (drop n bytes)
@@ -23,12 +23,6 @@ IsBytes-take n bytes h i =
       | inl lt ↦ rw (get_or-take n bytes i 0 lt) (h i)
       | inr le ↦ rw (get_or_past (take n bytes) i 0 (omega (arith, length-take n bytes))) (omega arith)
     ]
-
--- a reader that took these bytes from the front
-pub record Takes (before : Unread) (field : List ℕ) (after : Unread) : Type 0 where
-  pub bytes : before.rest ≡ field ++ after.rest
-  pub at : after.at ≡ before.at + length field
-  pub rest : IsBytes after.rest
 
 abbrev pub done : {A : Type 0} → A → Result A FieldFault
 done x = Ok x

@@ -11,9 +11,9 @@ use Rattle.std.proofs.Math.Facts as facts
 use Rattle.pb_base.specs.declared.fields.FieldFault.{FieldFault}
 use Rattle.pb_base.specs.declared.fields.FieldFault.TheVariants.{Short, NoEnd}
 use Rattle.pb_base.specs.declared.nsec.Nsec.{Nsec}
-use Rattle.pb_base.specs.Fields.{Unread, IsBytes, end, behind, text_before, text_at}
+use Rattle.pb_base.specs.Fields.{Unread, IsBytes, Takes, end, behind, text_before, text_at}
 use Rattle.pb_base.specs.Time.{time_bytes, time_of, time_at}
-use Rattle.pb_base.proofs.FieldLaws.{Takes, IsBytes-take, IsBytes-drop, front-takes, wide32, ok_is}
+use Rattle.pb_base.proofs.FieldLaws.{IsBytes-take, IsBytes-drop, front-takes, wide32, ok_is}
 
 abbrev is_zero : ℕ → Bool
 is_zero b = eqb b 0

@@ -2,6 +2,7 @@
 #![tactic(auto)]
 
 mod fields;
+mod laws;
 mod message;
 mod node;
 mod nsec;
@@ -9,6 +10,7 @@ mod put;
 mod refusal;
 
 pub use fields::{FieldFault, Fields};
+pub use laws::{read_field_was_written, written_field_is_read};
 pub use message::MessageFault;
 pub use node::NodeId;
 pub use nsec::Nsec;

@@ -6,9 +6,9 @@ use Rattle.std.proofs.lemmas.List.{append-nil, take_at, drop_at, take-append-dro
 use Rattle.pb_base.specs.declared.fields.FieldFault.{FieldFault}
 use Rattle.pb_base.specs.declared.message.MessageFault.{MessageFault}
 use Rattle.pb_base.specs.declared.message.MessageFault.TheVariants.{Malformed}
-use Rattle.pb_base.specs.Fields.{Unread, IsBytes, behind, number_at}
+use Rattle.pb_base.specs.Fields.{Unread, IsBytes, Takes, behind, number_at}
 use Rattle.pb_base.specs.Time.{time_bytes}
-use Rattle.pb_base.proofs.FieldLaws.{Takes, IsBytes-drop, wide8, wide16, wide32, number-takes, number-again, byte-takes, byte-again}
+use Rattle.pb_base.proofs.FieldLaws.{IsBytes-drop, wide8, wide16, wide32, number-takes, number-again, byte-takes, byte-again}
 use Rattle.pb_base.proofs.TextLaws.{text-takes, text-again, time-takes, time-again}
 use Rattle.pb_layout.specs.Kind.{Kind, Byte, Between, Half, Word, Split, Time, Text, Rest, AtMost, Numbers, Settings, Value, spell, Fits, Obeys, MayFollow}
 use Rattle.pb_layout.specs.Reading.{and_then, field, within, split, front_at, numbers_at, settings_at, key_at}

@@ -7,8 +7,8 @@ use Rattle.std.proofs.lemmas.List.{append-nil, length-append, nil_from_length}
 use Rattle.pb_base.specs.declared.fields.FieldFault.{FieldFault}
 use Rattle.pb_base.specs.declared.message.MessageFault.{MessageFault}
 use Rattle.pb_base.specs.declared.message.MessageFault.TheVariants.{Malformed}
-use Rattle.pb_base.specs.Fields.{Unread, IsBytes, bytes_at, number_at}
-use Rattle.pb_base.proofs.FieldLaws.{Takes, wide16, number-takes, number-again, bytes-takes, bytes-again, Takes-then}
+use Rattle.pb_base.specs.Fields.{Unread, IsBytes, Takes, bytes_at, number_at}
+use Rattle.pb_base.proofs.FieldLaws.{wide16, number-takes, number-again, bytes-takes, bytes-again, Takes-then}
 use Rattle.pb_layout.specs.Kind.{AreNumbers, Setting, setting_bytes, IsSetting, AreSettings}
 use Rattle.pb_layout.specs.Reading.{and_then, field, with_number, numbers_at, setting_at, settings_at}
 use Rattle.pb_layout.proofs.Steps.{ok_is, and_ok, field_ok}
