@@ -3,3 +3,4 @@ pub mod ListLaws
 pub mod KeyLaws
 pub mod LayoutLaws
 pub mod PieceLaws
+pub mod FaultLaws
