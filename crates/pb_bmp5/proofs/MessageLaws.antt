@@ -1,11 +1,14 @@
 -- The values that make a message are its keys.
-use Rattle.std.proofs.Common.{◌≡◌, ℕ, zero, suc, eqb, false, List, [], ◌∷◌, refl, subst}
+use Rattle.std.proofs.Common.{◌≡◌, ◌<◌, ◌^◌, ℕ, w32, arith, zero, suc, eqb, false, List, [], ◌∷◌, refl, sym, subst, inl, inr}
+use Rattle.std.proofs.lemmas.Bool.{ne_eqb}
 use Rattle.pb_base.specs.declared.nsec.Nsec.{Nsec}
+use Rattle.std.specs.Int.RustNames.{FitsSigned}
 use Rattle.pb_base.specs.Time.{time_bytes}
 use Rattle.pb_base.specs.declared.message.MessageFault.TheVariants.{UnknownType}
 use Rattle.pb_layout.specs.Layout.{MessageLayout, Stop, Values, answered, made}
 use Rattle.pb_layout.proofs.LayoutLaws.{at_type}
-use Rattle.pb_bmp5.specs.Message.{Message, ClockReply, no_time, clock_answer, of_type, layout, keys, message_bytes}
+use Rattle.pb_layout.proofs.FaultLaws.{NoStop}
+use Rattle.pb_bmp5.specs.Message.{Message, ClockReply, no_time, clock_answer, of_type, layout, IsType, keys, InRange, message_bytes}
 
 abbrev HasKeys : ℕ → ℕ → Type 0
 HasKeys tran type = (values : Values (of_type type tran)) → keys (made (of_type type tran) values) ≡ (type, (tran, values))
@@ -39,3 +42,26 @@ answer_bytes tran (suc resp) time P answered p = absurd cc
 pub refusal_bytes : (tran resp : ℕ) (time : Nsec) (P : List ℕ → Type 0) → (resp ≡ 0 → ⊥) → P (0x97 ∷ tran ∷ resp ∷ []) → P (message_bytes (ClockReply tran resp time))
 refusal_bytes tran zero time P refused p = absurd (refused refl)
 refusal_bytes tran (suc resp) time P refused p = p
+
+-- ---- the types
+
+clock_reply_ends : (tran resp : ℕ) → NoStop (clock_rest tran resp)
+clock_reply_ends tran zero = λ time. tt
+clock_reply_ends tran (suc resp) = tt
+
+pub known : (type tran : ℕ) → IsType type → NoStop (of_type type tran)
+known type tran is = elim is [
+  | inl e ↦ subst (λ (k : ℕ). NoStop (of_type k tran)) (sym e) (λ code adjust. tt)
+  | inr e ↦ subst (λ (k : ℕ). NoStop (of_type k tran)) (sym e) (clock_reply_ends tran)
+]
+
+pub unknown : (type tran : ℕ) → (IsType type → ⊥) → of_type type tran ≡ Stop (UnknownType type)
+unknown type tran other = no_type type tran (ne_eqb type 0x17 (λ e. other (inl e))) (ne_eqb type 0x97 (λ e. other (inr e)))
+
+pub answer_in_range : (tran resp : ℕ) (time : Nsec) → resp ≡ 0 → tran < 2 ^ 8 → FitsSigned w32 time.sec → FitsSigned w32 time.nano → InRange (ClockReply tran resp time)
+answer_in_range tran zero time answered small sec nano = (omega arith, (small, (omega arith, ((sec, nano), tt))))
+answer_in_range tran (suc resp) time answered small sec nano = absurd cc
+
+pub refusal_in_range : (tran resp : ℕ) (time : Nsec) → (resp ≡ 0 → ⊥) → tran < 2 ^ 8 → resp < 2 ^ 8 → InRange (ClockReply tran resp time)
+refusal_in_range tran zero time refused small code = absurd (refused refl)
+refusal_in_range tran (suc resp) time refused small code = (omega arith, (small, (code, tt)))

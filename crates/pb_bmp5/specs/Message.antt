@@ -1,5 +1,5 @@
 -- The BMP5 messages, their layouts, and the values of their keys.
-use Rattle.std.specs.Prelude.{◌≡◌, ℕ, zero, suc, pos, List, ◌==◌, if◌then◌else◌}
+use Rattle.std.specs.Prelude.{◌≡◌, ◌⊎◌, ℕ, zero, suc, pos, List, ◌==◌, if◌then◌else◌}
 use Rattle.pb_base.specs.declared.nsec.Nsec.{Nsec}
 use Rattle.pb_base.specs.declared.message.MessageFault.TheVariants.{UnknownType}
 use Rattle.pb_layout.specs.Kind.{Byte, Half, Time}
@@ -51,6 +51,10 @@ layout = do
   type ← Byte
   tran ← Byte
   of_type type tran
+
+-- the types that there are
+abbrev pub IsType : ℕ → Type 0
+IsType type = (type ≡ 0x17) ⊎ (type ≡ 0x97)
 
 -- the values of a message's keys
 abbrev pub keys : Message → Values layout

@@ -1,5 +1,5 @@
 -- The PakCtrl messages, their layouts, and the values of their keys.
-use Rattle.std.specs.Prelude.{◌≡◌, ℕ, List, ◌==◌, if◌then◌else◌}
+use Rattle.std.specs.Prelude.{◌≡◌, ◌⊎◌, ℕ, List, ◌==◌, if◌then◌else◌}
 use Rattle.pb_base.specs.declared.message.MessageFault.TheVariants.{UnknownType}
 use Rattle.pb_layout.specs.Kind.{Byte, Half}
 use Rattle.pb_layout.specs.Layout.{MessageLayout, Done, Stop, Key, ◌>>=◌, Values, AllFit, MayEnd, IsValid, ReadsAs, bytes_of}
@@ -43,6 +43,10 @@ layout = do
   type ← Byte
   tran ← Byte
   of_type type tran
+
+-- the types that there are
+abbrev pub IsType : ℕ → Type 0
+IsType type = (type ≡ 0x09) ⊎ (type ≡ 0x89)
 
 -- the values of a message's keys
 abbrev pub keys : Message → Values layout

@@ -1,7 +1,7 @@
-ghost use Rattle.std.specs.Prelude.{◌≡◌, Ok, Err, IfOk, IfErr};
+ghost use Rattle.std.specs.Prelude.{◌≡◌, ℕ, ◌<◌, ◌≤◌, ◌↔◌, length, slice_index, Ok, Err, IfOk, IfErr};
 ghost use Rattle.pb_base.specs.Fields.{whole};
 ghost use Rattle.pb_layout.specs.Reading.{reading, Gives};
-ghost use Rattle.pb_ctrl.specs.Message.{Message, told, hello, hello_reply, layout, MessageReads};
+ghost use Rattle.pb_ctrl.specs.Message.{Message, told, hello, hello_reply, layout, IsType, MessageReads};
 
 use crate::message::{Ctrl, HELLO, HELLO_REPLY};
 use pb_base::MessageFault;
@@ -13,7 +13,11 @@ pub fn read(message: &[u8]) -> Result<Ctrl, MessageFault>
     ensures found { IfOk result (λ m. MessageReads (told m) message.now) }
     // What the bytes read as is read.
     ensures only { (m : Message) → MessageReads m message.now → Gives told result (Ok m) }
-    // A refusal is that of the first key that can't be read.
+    // Of fewer than two bytes the type or the transaction is missing.
+    ensures short { length message.now < 2 → result ≡ Err (MessageFault.Malformed (length message.now)) }
+    // A type is unknown where there are two bytes and the first is no type.
+    ensures unknown { (n : ℕ) → (result ≡ Err (MessageFault.UnknownType n)) ↔ ((2 ≤ length message.now) × (slice_index message.now 0 ≡ n) × (IsType n → ⊥)) }
+    // Every refusal is that of the first key that can't be read.
     ensures refused { IfErr result (λ fault. reading layout (whole message.now) ≡ Err fault) }
 {
     read_all(message)

@@ -31,7 +31,7 @@ numbers_malformed [] at = tt
 numbers_malformed (high ∷ []) at = tt
 numbers_malformed (high ∷ low ∷ rest) at =
     cond_malformed (eqb (high + low) 0) (Ok ([], unread (at + 2) rest)) (and_then (numbers_at rest (at + 2)) (with_number high low)) tt
-      (then_malformed (numbers_at rest (at + 2)) (with_number high low) (numbers_malformed rest (at + 2)) (λ x. tt))
+    (then_malformed (numbers_at rest (at + 2)) (with_number high low) (numbers_malformed rest (at + 2)) (λ x. tt))
 
 setting_malformed : (u : Unread) → IfErr (setting_at u) IsMalformed
 setting_malformed u =
@@ -46,7 +46,7 @@ settings_malformed : (most : ℕ) (u : Unread) → IfErr (settings_at most u) Is
 settings_malformed zero u = tt
 settings_malformed (suc most) u =
     cond_malformed (eqb (length u.rest) 0) (Ok u) (and_then (setting_at u) (settings_at most)) tt
-      (then_malformed (setting_at u) (settings_at most) (setting_malformed u) (settings_malformed most))
+    (then_malformed (setting_at u) (settings_at most) (setting_malformed u) (settings_malformed most))
 
 pub key-malformed : (k : Kind) (u : Unread) → IfErr (key_at k u) IsMalformed
 unfolding key_at
@@ -98,7 +98,7 @@ module _ {X : Type 0} (of_type : ℕ → ℕ → MessageLayout X) where
       let u : Unread = whole (type ∷ tran ∷ rest) in
       let v : Unread = unread 1 (tran ∷ rest) in
       ap (λ (r : Result (ℕ × Unread) FieldFault). and_then (field u r) next) (byte-again 0 type (tran ∷ rest) small_type)
-        ∙ ap (λ (r : Result (ℕ × Unread) FieldFault). and_then (field v r) then_so) (byte-again 1 tran rest small_tran)
+      ∙ ap (λ (r : Result (ℕ × Unread) FieldFault). and_then (field v r) then_so) (byte-again 1 tran rest small_tran)
 
 clash : {X : Type 0} (at n : ℕ) → (let r : Result X MessageFault = Err (Malformed at) in r ≡ Err (UnknownType n)) → ⊥
 clash at n e = cc
@@ -121,15 +121,16 @@ reading-unknown of_type IsType known unknown (a ∷ []) n fits =
 reading-unknown {X} of_type IsType known unknown (a ∷ b ∷ rest) n fits =
     let u : Unread = unread 2 rest in
     let decides : reading (typed of_type) (whole (a ∷ b ∷ rest)) ≡ reading (of_type a b) u = reading-typed of_type a b rest (fits 0) (fits 1) in
-    let stops : (IsType a → ⊥) → reading (of_type a b) u ≡ Err (UnknownType a) = λ no. ap (λ (l : MessageLayout X). reading l u) (unknown a b no) ∙ stopped u (UnknownType a) in
-    (λ e.
-      let e' : reading (of_type a b) u ≡ Err (UnknownType n) = sym decides ∙ e in
-      let no : IsType a → ⊥ = λ is. subst (λ (r : Result X MessageFault). IfErr r IsMalformed) e' (reading-malformed (of_type a b) u (known a b is)) in
-      let same : a ≡ n = same_type a n (sym (stops no) ∙ e') in
-      (omega arith, same, subst (λ (k : ℕ). IsType k → ⊥) same no),
-     λ h.
-      let no : IsType a → ⊥ = subst (λ (k : ℕ). IsType k → ⊥) (sym h.1) h.2 in
-      decides ∙ stops no ∙ ap (λ (k : ℕ). Err (UnknownType k)) h.1)
+    let stops : (IsType a → ⊥) → reading (of_type a b) u ≡ Err (UnknownType a) = λ no. ap (λ (l : MessageLayout X). reading l u) (unknown a b no) ∙ stopped u (UnknownType a) in (
+      λ e.
+          let e' : reading (of_type a b) u ≡ Err (UnknownType n) = sym decides ∙ e in
+          let no : IsType a → ⊥ = λ is. subst (λ (r : Result X MessageFault). IfErr r IsMalformed) e' (reading-malformed (of_type a b) u (known a b is)) in
+          let same : a ≡ n = same_type a n (sym (stops no) ∙ e') in
+          (omega arith, same, subst (λ (k : ℕ). IsType k → ⊥) same no),
+      λ h.
+          let no : IsType a → ⊥ = subst (λ (k : ℕ). IsType k → ⊥) (sym h.1) h.2 in
+          decides ∙ stops no ∙ ap (λ (k : ℕ). Err (UnknownType k)) h.1,
+    )
 
 -- ---- the same of what a function answered
 
