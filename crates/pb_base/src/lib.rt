@@ -16,3 +16,6 @@ pub use node::NodeId;
 pub use nsec::Nsec;
 pub use put::Put;
 pub use refusal::{Full, Memory};
+
+#[cfg(test)]
+mod tests;

@@ -10,3 +10,6 @@ pub use laws::written_message_is_read;
 pub use message::Bmp5;
 pub use reading::read;
 pub use writing::write;
+
+#[cfg(test)]
+mod tests;

@@ -10,3 +10,6 @@ pub use headers::{Header, LinkState, Packet, PacketFault, Phys};
 pub use laws::written_is_read;
 pub use reading::read;
 pub use writing::write;
+
+#[cfg(test)]
+mod tests;
