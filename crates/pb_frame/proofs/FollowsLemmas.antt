@@ -1,7 +1,8 @@
 -- From one state of an unframer to a later one, and what that says of any stream.
-use Rattle.std.proofs.Common.{◌≡◌, ◌≢◌, ℕ, ◌+◌, ◌≤◌, List, [], ◌∷◌, ◌++◌, length, None, inl, refl, sym, ◌∙◌, ap, subst, arith, append_assoc}
-use Rattle.std.proofs.lemmas.List.{append-nil}
+use Rattle.std.proofs.Common.{◌≡◌, ◌≢◌, ℕ, ◌+◌, ◌-◌, ◌<◌, List, [], ◌∷◌, ◌++◌, length, take, drop, get_or, None, inl, refl, sym, ◌∙◌, ap, subst, arith, append_assoc}
+use Rattle.std.proofs.lemmas.List.{append-nil, take_more, take_rest}
 use Rattle.std.proofs.lemmas.List.Elements.{All-nil}
+use Rattle.std.proofs.Math.Seq.{take-add}
 use Rattle.pb_frame.specs.declared.state.State.TheVariants.{Skipping}
 use Rattle.pb_frame.specs.Framing.{flag, Verdict, verdicts, unfinished}
 use Rattle.pb_frame.specs.Hearing.{Hearing, hearing, StandsFor, Follows, shown}
@@ -25,6 +26,19 @@ Follows-trans u v w a b vs ws f g = record {
       ∙ append_assoc (verdicts pushed) vs ws;
 }
 
+-- In a loop over a piece of the stream, behind its first i bytes: a run without a verdict at `&piece[i..]`, and a
+-- pushed byte.
+pub Follows-run_on : (u v w : Hearing) (piece : List ℕ) (i n : ℕ) (vs : List Verdict) → Follows u (take i piece) vs v → Follows v (take n (take (length piece - i) (drop i piece))) [] w
+    → Follows u (take (i + n) piece) vs w
+Follows-run_on u v w piece i n vs f g =
+    let h = subst (λ t. Follows v (take n t) [] w) (take_rest piece i) g in
+    subst (λ xs. Follows u (take (i + n) piece) xs w) (append-nil vs)
+    (subst (λ t. Follows u t (vs ++ []) w) (sym (take-add i n piece)) (Follows-trans u v w (take i piece) (take n (drop i piece)) vs [] f h))
+
+pub Follows-push_on : (u v w : Hearing) (piece : List ℕ) (i : ℕ) (vs ws : List Verdict) → i < length piece → Follows u (take i piece) vs v → Follows v (get_or piece i 0 ∷ []) ws w → Follows u (take (i + 1) piece) (vs ++ ws) w
+Follows-push_on u v w piece i vs ws below f g =
+    subst (λ t. Follows u t (vs ++ ws) w) (sym (take_more piece i 0 below)) (Follows-trans u v w (take i piece) (get_or piece i 0 ∷ []) vs ws f g)
+
 -- an unframer to which nothing was pushed
 abbrev pub fresh : Hearing
 fresh = hearing Skipping 0 0 []
@@ -34,6 +48,10 @@ fresh-stands = record { count = refl; room = omega arith; stands = inl (All-nil 
 
 pub verdicts-nil : verdicts [] ≡ []
 verdicts-nil = verdicts-none [] (All-nil (λ byte. byte ≢ flag))
+
+-- what was shown from the start on are the verdicts of all bytes
+pub Follows-start : (u v : Hearing) (bytes : List ℕ) (vs : List Verdict) → StandsFor u [] → Follows u bytes vs v → StandsFor v bytes × (verdicts bytes ≡ vs)
+Follows-start u v bytes vs st f = (f.stands [] st, f.shows [] st ∙ ap (λ xs. xs ++ vs) verdicts-nil)
 
 -- some unframer hears any bytes
 pub heard_of : (u : Hearing) (bytes : List ℕ) → (vs : List Verdict) × (v : Hearing) × Follows u bytes vs v

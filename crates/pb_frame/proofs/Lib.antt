@@ -1,7 +1,10 @@
+mod CutLemmas
+mod FaultLemmas
 pub mod FollowsLemmas
-mod LawLemmas
+pub mod FrameLemmas
 mod OutcomeLemmas
 mod QuotedLemmas
+mod ReadLemmas
 mod RunLemmas
 mod SignatureLemmas
 mod SplitLemmas

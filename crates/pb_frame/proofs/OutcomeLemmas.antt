@@ -1,12 +1,11 @@
 -- The outcome of a piece whose text is read as a body and a rest.
 use Rattle.std.proofs.Common.{◌≡◌, ◌≢◌, ℕ, ◌+◌, ◌-◌, ◌*◌, ◌<◌, ◌≤◌, Bool, true, false, cond, List, [], ◌∷◌, ◌++◌, length, take, Option, Some, None, refl, sym, ◌∙◌, ap, subst, arith, append_assoc, length-append}
 use Rattle.std.proofs.lemmas.Bool.{lt-ltb, le-ltb, cond-true, cond-false}
-use Rattle.std.proofs.lemmas.List.{append-nil, take_at}
-use Rattle.pb_frame.specs.declared.why.Why.{Why}
-use Rattle.pb_frame.specs.declared.why.Why.TheVariants.{Quote, Long, Short, Signature}
-use Rattle.pb_frame.specs.Framing.{flag, quote, quoted, quoted_byte, Unquoted, unquoted, Piece, Outcome, Whole, Faulty, ended_outcome, is_broken, outcome}
+use Rattle.std.proofs.lemmas.List.{take_at}
+use Rattle.pb_frame.specs.declared.why.Why.TheVariants.{Quote, Long}
+use Rattle.pb_frame.specs.Framing.{quote, quoted, Unquoted, unquoted, Outcome, Faulty, ended_outcome, is_broken, outcome}
 use Rattle.pb_frame.specs.Hearing.{IsSettled}
-use Rattle.pb_frame.proofs.QuotedLemmas.{quoted-append, quoted-push, unquoted-quoted, unquoted-whole, unquoted-cut_off, unquoted-wrong}
+use Rattle.pb_frame.proofs.QuotedLemmas.{unquoted-quoted, unquoted-whole, unquoted-cut_off, unquoted-wrong}
 
 -- the outcome over what was read of the text
 abbrev pub read_outcome : ℕ → List ℕ → Bool → Unquoted → Option Outcome

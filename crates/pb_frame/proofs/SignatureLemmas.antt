@@ -1,8 +1,8 @@
 -- The signature over a list's end, over joined lists, and under its nullifier.
-use Rattle.std.proofs.Common.{◌≡◌, ℕ, ◌+◌, ◌-◌, ◌*◌, ◌/◌, ◌%◌, ◌<◌, ◌≤◌, List, [], ◌∷◌, ◌++◌, reverse, length, take, set, get_or, refl, sym, ◌∙◌, ap, subst, arith, cond, leb}
+use Rattle.std.proofs.Common.{◌≡◌, ℕ, ◌+◌, ◌-◌, ◌*◌, ◌/◌, ◌%◌, ◌<◌, ◌≤◌, List, [], ◌∷◌, ◌++◌, reverse, length, take, set, get_or, refl, sym, ◌∙◌, ap, arith, cond, leb}
 use Rattle.std.proofs.lemmas.List.{reverse-append, take_more, take_more_set}
 use Rattle.std.proofs.lemmas.Bool.{cond_both}
-use Rattle.pb_frame.specs.Signature.{start, shifted, step, sig_back, sig, null}
+use Rattle.pb_frame.specs.Signature.{shifted, step, sig_back, sig, null}
 
 pub sig-nil : (s : ℕ) → sig [] s ≡ s
 unfolding sig
@@ -61,16 +61,6 @@ step-second s =
 pub sig-null : (s : ℕ) → s < 65536 → sig (null s) s ≡ 0
 unfolding sig
 sig-null s h = ap (λ t. step t ((256 - s % 256) % 256)) (step-first s h) ∙ step-second s
-
--- the step is one to one in each argument
-pub step-one_signature : (s t byte : ℕ) → s < 65536 → t < 65536 → step s byte ≡ step t byte → s ≡ t
-step-one_signature s t byte hs ht e =
-    let low : s % 256 ≡ t % 256 = omega arith in
-    let same = shifted-low s t low in
-    omega arith
-
-pub step-one_byte : (s x y : ℕ) → x < 256 → y < 256 → step s x ≡ step s y → x ≡ y
-step-one_byte s x y hx hy e = omega arith
 
 -- a walk over a list: one more byte
 pub sig-more : (bytes : List ℕ) (i s sum next : ℕ) → i < length bytes → sum ≡ sig (take i bytes) s → next ≡ step sum (get_or bytes i 0) → next ≡ sig (take (i + 1) bytes) s

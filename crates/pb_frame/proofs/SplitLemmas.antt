@@ -1,10 +1,9 @@
 -- A stream that is cut at a flag byte: what stands before it has its verdicts, and what stands behind it adds its own.
-use Rattle.std.proofs.Common.{◌≡◌, ◌≢◌, ℕ, ◌+◌, ◌<◌, ◌≤◌, Bool, true, false, cond, List, [], ◌∷◌, ◌++◌, length, take, ltb, ◌-◌, Option, Some, None, flat_map, find, option_map, is_none, refl, sym, ◌∙◌, ap, subst, nat_eq, arith, append_assoc}
+use Rattle.std.proofs.Common.{◌≡◌, ◌≢◌, ℕ, ◌+◌, ◌<◌, Bool, true, false, cond, List, [], ◌∷◌, ◌++◌, length, take, ltb, ◌-◌, Some, None, flat_map, find, option_map, is_none, refl, sym, ◌∙◌, ap, nat_eq, arith, append_assoc}
 use Rattle.std.proofs.lemmas.Grind.{flat_map-append}
 use Rattle.std.proofs.lemmas.Bool.{ne_eqb, cond-false}
 use Rattle.std.proofs.lemmas.List.{append-nil}
 use Rattle.std.proofs.lemmas.List.Elements.{All-nil, All-head, All-tail}
-use Rattle.std.proofs.lemmas.List.Folds.{find-append}
 use Rattle.pb_frame.specs.declared.why.Why.TheVariants.{Quote, Long}
 use Rattle.pb_frame.specs.Framing.{flag, Cut, cut, Piece, piece_of, has_next, placed, pieces, Outcome, outcome, Verdict, verdict_of, verdicts, is_open, unfinished, unquoted, quoted, Faulty, ended_outcome, is_broken}
 use Rattle.pb_frame.specs.Hearing.{HasNoFlag}

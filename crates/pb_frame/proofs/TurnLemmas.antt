@@ -1,20 +1,19 @@
 -- One push keeps what an unframer stands for, and shows the verdicts that the byte adds.
-use Rattle.std.proofs.Common.{◌≡◌, ◌≢◌, ℕ, ◌+◌, ◌-◌, ◌*◌, ◌<◌, ◌≤◌, ◌⊎◌, inl, inr, Bool, true, false, cond, not, ◌&&◌, All, IsSome, is_some, List, [], ◌∷◌, ◌++◌, length, Option, Some, None, refl, sym, ◌∙◌, ap, subst, arith, append_assoc, length-append, ltb, nat_eq, leb}
-use Rattle.std.proofs.lemmas.Bool.{false≢true, cases_eq, eqb-true, eqb-false, eq-eqb, ne_eqb, ltb-true, ltb-false, cond-true, cond-false}
+use Rattle.std.proofs.Common.{◌≡◌, ◌≢◌, ℕ, ◌+◌, ◌-◌, ◌<◌, ◌≤◌, ◌⊎◌, inl, inr, Bool, true, false, cond, not, ◌&&◌, All, IsSome, is_some, List, [], ◌∷◌, ◌++◌, length, Option, Some, None, refl, sym, ◌∙◌, ap, subst, arith, append_assoc, length-append, ltb, nat_eq}
+use Rattle.std.proofs.lemmas.Bool.{false≢true, cases_eq, eq-eqb, ne_eqb, ltb-true, ltb-false, cond-true, cond-false}
 use Rattle.std.proofs.lemmas.List.{append-nil}
 use Rattle.std.proofs.lemmas.List.Elements.{All-nil, All-cons, All-push, All-append}
 use Rattle.pb_frame.specs.declared.heard.Heard.{Heard}
 use Rattle.pb_frame.specs.declared.heard.Heard.TheVariants.{Nothing, Body, Bad}
 use Rattle.pb_frame.specs.declared.state.State.{State}
 use Rattle.pb_frame.specs.declared.state.State.TheVariants.{Skipping, Between, Whole as WholeBody, Plain, Quoting}
-use Rattle.pb_frame.specs.declared.why.Why.{Why}
 use Rattle.pb_frame.specs.declared.why.Why.TheVariants.{Quote, Long, Short, Signature}
 use Rattle.pb_frame.specs.Signature.{start, sig}
-use Rattle.pb_frame.specs.Framing.{flag, quote, IsPlain, quoted, quoted_byte, Piece, Outcome, Whole, Faulty, Verdict, ended_outcome, content_of, outcome, verdicts, unfinished}
+use Rattle.pb_frame.specs.Framing.{flag, quote, IsPlain, quoted, quoted_byte, Outcome, Whole, Faulty, Verdict, ended_outcome, content_of, outcome, verdicts, unfinished}
 use Rattle.pb_frame.specs.Hearing.{Hearing, hearing, HasNoFlag, IsSettled, IsJudged, IsBehindFlag, IsWithin, StandsIn, StandsFor, Follows, shown}
 use Rattle.pb_frame.specs.Turn.{Turn, turned, kept, ended, gone_on, begun, unquoted_by, passed, turn_in}
 use Rattle.pb_frame.proofs.QuotedLemmas.{quoted-nil, quoted-push, quoted-append, quoted-plain, quoted_byte-plain, no_flag-quoted, length-quoted}
-use Rattle.pb_frame.proofs.SplitLemmas.{verdicts-open, verdicts-ended, verdicts-none, verdicts-first, judged, judged-nil, judged-some, judged-none, unfinished-none, unfinished-judged, unfinished-within, unfinished-behind}
+use Rattle.pb_frame.proofs.SplitLemmas.{verdicts-open, verdicts-ended, verdicts-none, verdicts-first, judged-nil, judged-some, judged-none, unfinished-none, unfinished-judged, unfinished-within, unfinished-behind}
 use Rattle.pb_frame.proofs.OutcomeLemmas.{outcome-plain, outcome-quoting, outcome-cut_off, outcome-ended, settled-long, settled-wrong}
 
 -- a turn that fits: what it leaves stands for the bytes now pushed, and these are the verdicts

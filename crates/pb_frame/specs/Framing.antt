@@ -1,5 +1,5 @@
 -- Frames on a byte stream, as PakBus has them: a flag byte, a quoted body, a flag byte.
-use Rattle.std.specs.Prelude.{◌≡◌, ◌≢◌, ℕ, ◌+◌, ◌-◌, ◌≤◌, ◌⊎◌, Bool, true, false, not, ◌&&◌, if◌then◌else◌, nat_eq, nat_lt, List, [], ◌∷◌, ◌++◌, length, take, Option, Some, None, is_none, option_to_list, option_map, find, flat_map, map}
+use Rattle.std.specs.Prelude.{◌≡◌, ◌≢◌, ℕ, ◌+◌, ◌-◌, ◌≤◌, ◌⊎◌, Bool, true, false, not, ◌&&◌, if◌then◌else◌, nat_eq, nat_lt, List, [], ◌∷◌, ◌++◌, length, take, Option, Some, None, is_none, option_to_list, option_map, find, flat_map}
 use Rattle.pb_frame.specs.declared.why.Why.{Why}
 use Rattle.pb_frame.specs.declared.why.Why.TheVariants.{Quote, Long, Short, Signature}
 use Rattle.pb_frame.specs.Signature.{start, sig, null}
@@ -110,7 +110,7 @@ unquoted (x ∷ y ∷ text) =
     else record { body = []; rest = x ∷ y ∷ text }))
     else with_byte x (unquoted (y ∷ text))
 
--- what is heard of a piece: its content, or the first place where no good body can continue
+-- what is heard of a piece: its content, or its first fault with the place of the byte that shows it
 pub data Outcome : Type 0 where
   Whole : (content : List ℕ) → Outcome
   Faulty : (at : ℕ) (why : Why) → Outcome

@@ -4,7 +4,7 @@ use Rattle.pb_frame.specs.declared.heard.Heard.{Heard}
 use Rattle.pb_frame.specs.declared.heard.Heard.TheVariants.{Nothing, Body, Bad}
 use Rattle.pb_frame.specs.declared.state.State.{State}
 use Rattle.pb_frame.specs.declared.state.State.TheVariants.{Skipping, Between, Whole as WholeBody, Plain, Quoting}
-use Rattle.pb_frame.specs.Framing.{flag, quote, quoted, outcome, content_of, Outcome, Whole, Faulty, Verdict, verdicts, IsContentSize}
+use Rattle.pb_frame.specs.Framing.{flag, quote, IsPlain, quoted, outcome, content_of, Outcome, Whole, Faulty, Verdict, verdicts, IsContentSize}
 
 -- what an unframer knows
 pub record Hearing : Type 0 where
@@ -86,3 +86,11 @@ abbrev pub IsAnswered : Hearing → Heard → Type 0
 IsAnswered h Nothing = Unit {0}
 IsAnswered h (Body at) = (at ≡ h.piece) × HoldsContent h
 IsAnswered h (Bad at why) = at + 1 ≡ h.count
+
+-- why a run of bytes without a verdict ends before its last one: at a byte that is to be pushed, or where the body is full
+abbrev pub EndsRun : State → List ℕ → ℕ → ℕ → Type 0
+EndsRun Skipping body taken byte = byte ≡ flag
+EndsRun Between body taken byte = Unit {0}
+EndsRun WholeBody body taken byte = Unit {0}
+EndsRun Plain body taken byte = IsPlain byte → length body + taken ≡ 1010
+EndsRun Quoting body taken byte = Unit {0}

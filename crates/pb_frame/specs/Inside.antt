@@ -1,5 +1,5 @@
 -- What is true of the fields of every unframer.
-use Rattle.std.specs.Prelude.{◌≡◌, ℕ, ◌+◌, ◌*◌, ◌^◌, ◌≤◌, ◌≢◌, take}
+use Rattle.std.specs.Prelude.{◌≡◌, ◌+◌, ◌*◌, ◌≤◌, ◌≢◌, take}
 use Rattle.pb_frame.specs.declared.unframer.Unframer.TheInside.{Inside}
 use Rattle.pb_frame.specs.declared.state.State.TheVariants.{Whole}
 use Rattle.pb_frame.specs.Signature.{start, sig}

@@ -1,5 +1,5 @@
 -- One push, as a function of what is known before it.
-use Rattle.std.specs.Prelude.{ℕ, ◌+◌, ◌&&◌, not, nat_eq, nat_lt, if◌then◌else◌, List, [], ◌∷◌, ◌++◌, length}
+use Rattle.std.specs.Prelude.{ℕ, ◌+◌, ◌&&◌, not, nat_eq, nat_lt, if◌then◌else◌, [], ◌∷◌, ◌++◌, length}
 use Rattle.pb_frame.specs.declared.heard.Heard.{Heard}
 use Rattle.pb_frame.specs.declared.heard.Heard.TheVariants.{Nothing, Body, Bad}
 use Rattle.pb_frame.specs.declared.state.State.{State}

@@ -7,6 +7,6 @@ pub enum Heard {
     Nothing,
     /// A good body; `at` is the place of the first byte of its piece.
     Body { at: u64 },
-    /// A piece without a good body; `at` is the first place where no good body can continue.
+    /// A piece without a good body; `at` is the place of the byte that shows its first fault.
     Bad { at: u64, why: Why },
 }

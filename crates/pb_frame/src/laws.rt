@@ -1,7 +1,7 @@
 ghost use Rattle.std.specs.Prelude.{◌≡◌, ℕ, ◌+◌, ◌<◌, ◌↔◌, true, List, [], ◌∷◌, ◌++◌, length, All, flat_map, Some, None};
 ghost use Rattle.pb_frame.specs.declared.why.Why.{Why};
 ghost use Rattle.pb_frame.specs.Signature.{start, step, sig, null};
-ghost use Rattle.pb_frame.specs.Framing.{flag, Quoted, quoted, frame, cut, Piece, pieces, IsGoodBody, IsContentSize, content_of, outcome, Whole, Faulty, Verdict, verdicts, unfinished};
+ghost use Rattle.pb_frame.specs.Framing.{flag, Quoted, quoted, frame, cut, Piece, pieces, IsGood, IsContentSize, content_of, outcome, Whole, Faulty, Verdict, verdicts, unfinished};
 ghost use Rattle.pb_frame.specs.Hearing.{HasNoFlag};
 ghost use Rattle.pb_frame.specs.Faults.{HasFault, IsHeardBefore, IsPiece};
 
@@ -36,8 +36,8 @@ pub fn law_pieces()
 
 /// An ended piece that is good is heard as the content of its body, and nothing else is heard as a content.
 pub fn law_good()
-    ensures good { (piece : Piece) (body : List ℕ) → piece.ended ≡ true → IsGoodBody piece.text body → outcome piece ≡ Some (Whole (content_of body)) }
-    ensures whole { (piece : Piece) (content : List ℕ) → IsPiece piece → outcome piece ≡ Some (Whole content) → (piece.ended ≡ true) × ((body : List ℕ) × IsGoodBody piece.text body × (content ≡ content_of body)) }
+    ensures good { (piece : Piece) (good : IsGood piece.text) → piece.ended ≡ true → outcome piece ≡ Some (Whole (content_of good.0)) }
+    ensures whole { (piece : Piece) (content : List ℕ) → IsPiece piece → outcome piece ≡ Some (Whole content) → (piece.ended ≡ true) × ((good : IsGood piece.text) × (content ≡ content_of good.0)) }
 {}
 
 /// The fault that is heard is one that the piece has, and none comes before it.
@@ -49,6 +49,7 @@ pub fn law_fault()
 /// A written frame is heard as its content, whatever stands before it, and leaves no open piece.
 pub fn law_frame_heard()
     ensures heard { (front content : List ℕ) → IsContentSize (length content) → verdicts (front ++ frame content) ≡ verdicts (front ++ flag ∷ []) ++ record { piece = length front + 1; outcome = Whole content } ∷ [] }
+    ensures next { (front content : List ℕ) → IsContentSize (length content) → verdicts ((front ++ flag ∷ []) ++ frame content) ≡ verdicts (front ++ flag ∷ []) ++ record { piece = length front + 2; outcome = Whole content } ∷ [] }
     ensures closed { (front content : List ℕ) → unfinished (front ++ frame content) ≡ None }
 {}
 

@@ -21,3 +21,6 @@ pub use signing::{nullifier, signature};
 pub use unframer::Unframer;
 pub use why::Why;
 pub use writer::frame_into;
+
+#[cfg(test)]
+mod tests;

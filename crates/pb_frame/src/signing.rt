@@ -2,7 +2,7 @@ ghost use Rattle.std.specs.Prelude.{◌≡◌, ◌==◌, ℕ, ◌+◌, ◌*◌, 
 ghost use Rattle.pb_frame.specs.Signature.{step, sig, null};
 
 /// A signature as its two bytes, which is how it is stepped fastest.
-#[derive(Clone, Copy, Debug, PartialEq, Eq)]
+#[derive(Clone, Copy)]
 pub struct Signer {
     pub high: u8,
     pub low: u8,

@@ -1,5 +1,5 @@
 /// Where in the stream an unframer is.
-#[derive(Clone, Copy, Debug, PartialEq, Eq)]
+#[derive(Clone, Copy)]
 pub enum State {
     /// Before the first flag byte, or behind a fault: all is passed over up to the next flag byte.
     Skipping,

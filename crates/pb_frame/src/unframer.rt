@@ -1,6 +1,6 @@
-ghost use Rattle.std.specs.Prelude.{◌≡◌, ◌==◌, ℕ, ◌+◌, ◌*◌, ◌^◌, ◌<◌, ◌≤◌, List, [], ◌∷◌, ◌++◌, length, take, All, IsSome, is_some};
-ghost use Rattle.pb_frame.specs.Framing.{IsPlain, IsContentSize, verdicts, unfinished};
-ghost use Rattle.pb_frame.specs.Hearing.{StandsFor, Follows, shown, IsAnswered, HoldsContent, HasNoFlag, hearing};
+ghost use Rattle.std.specs.Prelude.{◌≡◌, ◌==◌, ℕ, ◌+◌, ◌*◌, ◌^◌, ◌<◌, ◌≤◌, List, [], ◌∷◌, ◌++◌, length, take, slice_index, All, IsSome, is_some};
+ghost use Rattle.pb_frame.specs.Framing.{flag, IsPlain, IsContentSize, verdicts, unfinished};
+ghost use Rattle.pb_frame.specs.Hearing.{StandsFor, Follows, shown, IsAnswered, HoldsContent, HasNoFlag, EndsRun, hearing};
 ghost use Rattle.pb_frame.specs.Turn.{kept, ended, gone_on, begun, unquoted_by, passed, turned};
 
 use crate::limits::{BODY_MAX, FLAG, QUOTE, QUOTED_FLAG, QUOTED_QUOTE, START};
@@ -53,7 +53,7 @@ impl Unframer {
         }
     }
 
-    /// Takes one byte.
+    /// Takes one byte, and answers the verdict that it shows. Fewer than 2^62 bytes were taken before.
     pub fn push(&mut self, byte: u8) -> Heard
         requires { self.old.count < 2 ^ 62 }
         ensures follows { Follows self.old (byte ∷ []) (shown self.new result) self.new }
@@ -69,14 +69,16 @@ impl Unframer {
         }
     }
 
-    /// Takes a front of `bytes` that shows no verdict, and answers how many bytes that were. It may be none, as at a
-    /// flag byte or a quote byte: then `push` takes the next one.
+    /// Takes a front of `bytes` that shows no verdict, and answers how many bytes that were. In a piece it goes on to
+    /// the next flag byte or quote byte, and in what is passed over to the next flag byte; behind a flag byte or a
+    /// quote byte it takes none. `push` takes the byte at which it stops.
     pub fn take_plain(&mut self, bytes: &[u8]) -> usize
         requires { self.old.count + length bytes.now ≤ 2 ^ 62 }
         ensures front { result ≤ length bytes.now }
         ensures follows { Follows self.old (take result bytes.now) [] self.new }
         ensures count { self.new.count ≡ self.old.count + result }
         ensures kept { length self.new.body ≤ 1010 }
+        ensures end { result < length bytes.now → EndsRun self.old.state self.old.body result (slice_index bytes.now result) }
     {
         match self.state {
             State::Plain => self.take_body(bytes),
@@ -85,7 +87,7 @@ impl Unframer {
         }
     }
 
-    /// The place of the first byte of the piece in progress or, right after a verdict, of the piece that was judged.
+    /// Where the piece in progress began or, right after a verdict, where the judged piece began.
     pub fn piece(&self) -> u64
         ensures value { result ≡ self.now.piece }
         ensures open { (pushed : List ℕ) → StandsFor self.now pushed → IsSome (unfinished pushed) → unfinished pushed ≡ Some result }
@@ -100,7 +102,7 @@ impl Unframer {
         matches!(self.state, State::Plain | State::Quoting)
     }
 
-    /// The last body without its nullifier, right after a push that answered `Body`: 4 bytes, or 8 to 1,008.
+    /// Right after a push that answered `Body`, that body less the two bytes of its nullifier: 4 bytes, or 8 to 1,008.
     pub fn content(&self) -> &[u8]
         requires { HoldsContent self.now }
         ensures value { result.now ≡ self.now.content }
@@ -233,6 +235,7 @@ impl Unframer {
         ensures front { result ≤ length bytes.now }
         ensures plain { All IsPlain (take result bytes.now) }
         ensures room { length self.old.body + result ≤ 1010 }
+        ensures end { result < length bytes.now → IsPlain (slice_index bytes.now result) → length self.old.body + result ≡ 1010 }
         ensures after { self.new ≡ hearing self.old.state (self.old.count + result) self.old.piece (self.old.body ++ take result bytes.now) }
     {
         let n = copy_plain(bytes, &mut self.body[self.length..], &mut self.signer);
@@ -246,6 +249,7 @@ impl Unframer {
         requires { self.old.count + length bytes.now ≤ 2 ^ 62 }
         ensures front { result ≤ length bytes.now }
         ensures no_flag { HasNoFlag (take result bytes.now) }
+        ensures end { result < length bytes.now → slice_index bytes.now result ≡ flag }
         ensures after { self.new ≡ hearing self.old.state (self.old.count + result) self.old.piece self.old.body }
     {
         let n = bytes

@@ -1,12 +1,12 @@
 /// Why a piece of the stream holds no good body, in the order of the test (PakBus).
 #[derive(Clone, Copy, Debug, PartialEq, Eq)]
 pub enum Why {
-    /// The quote byte 0xBC is followed by another byte than 0xDC or 0xDD.
+    /// What stands behind the quote byte 0xBC is neither 0xDC nor 0xDD; it may be the flag byte that ends the piece.
     Quote,
-    /// The body reaches 1,011 bytes.
+    /// More than 1,010 body bytes.
     Long,
-    /// The piece ends with 1 to 5 or 7 to 9 body bytes.
+    /// At its end, the piece has fewer than 10 body bytes, and not 6.
     Short,
-    /// The piece ends, and the signature of its body isn't 0.
+    /// At its end, the piece has a body whose signature is another than 0.
     Signature,
 }

@@ -1,5 +1,7 @@
 mod CopyLemmas
 pub mod CrashLemmas
+mod LinkLogLemmas
+mod MemSiteLemmas
 pub mod Moments
 pub mod SinkLemmas
 mod SourceLemmas

@@ -1,8 +1,8 @@
 -- What a crash may leave while a frame is sent and what comes first is taken.
-use Rattle.std.proofs.Common.{◌⊎◌, ⊎_elim, inl, inr, ◌≡◌, ℕ, List, [], ◌∷◌, ◌++◌, refl, ap, sym, append-nil, ◌∙◌}
+use Rattle.std.proofs.Common.{◌⊎◌, ⊎_elim, inl, inr, ◌≡◌, ℕ, List, [], ◌∷◌, refl, ap, sym, append-nil, ◌∙◌}
 use Rattle.pb_base.specs.World.{World, Sent, sent}
-use Rattle.pb_io.proofs.Moments.{Now, started, goes_on}
-use Rattle.pb_io.proofs.WorldLemmas.{GrowsBy-nil, GrowsBy-trans, sent_now}
+use Rattle.pb_io.proofs.Moments.{started, goes_on}
+use Rattle.pb_io.proofs.WorldLemmas.{GrowsBy-trans, sent_now}
 use Rattle.pb_io.specs.Disk.{Looks}
 use Rattle.pb_io.specs.Site.{GrowsBy, SentOnce}
 use Rattle.pb_io.specs.Told.{Told, IsLawful, Elapses, LeavesOnly}

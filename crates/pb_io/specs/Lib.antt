@@ -4,6 +4,8 @@ pub mod Crash
 pub mod Disk
 pub mod Faults
 pub mod InMemory
+pub mod Inbox
+pub mod LinkLog
 pub mod Settled
 pub mod Sink
 pub mod Site

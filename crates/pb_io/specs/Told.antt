@@ -46,22 +46,29 @@ pub record LeavesOnly (old new : Told) (P : World → List ℕ → Type 0) : Typ
   -- for a run of calls that began earlier
   pub before : (t : ℕ) (w : World) (c : List ℕ) → t ≤ old.moment → new.left t w c → old.left t w c ⊎ P w c
 
--- who tells nothing but its counts
-abbrev pub silent : (faults link_faults quiets : ℕ) → Told
-silent faults link_faults quiets = record {
+-- who tells nothing of a file
+abbrev pub without_file : ℕ → Link → Told
+without_file faults link = record {
   file = None;
   image = λ _. ⊥;
   faults = faults;
-  link = record { world = None; faults = link_faults; quiets = quiets };
+  link = link;
   moment = 0;
   left = λ _ _ _. ⊥;
 }
 
-pub silent_is_lawful : (faults link_faults quiets : ℕ) → IsLawful (silent faults link_faults quiets)
-silent_is_lawful faults link_faults quiets = record {
+-- who tells nothing but its counts
+abbrev pub silent : (faults link_faults quiets : ℕ) → Told
+silent faults link_faults quiets = without_file faults (record { world = None; faults = link_faults; quiets = quiets })
+
+pub without_file_is_lawful : (faults : ℕ) (link : Link) → IsLawful (without_file faults link)
+without_file_is_lawful faults link = record {
   reads = λ f is. absurd (none-some f is);
   told = λ c none. absurd none;
   short = λ c none. absurd none;
   counts_now = λ t w c le is none. absurd none;
   only_now = λ w c none. absurd none;
 }
+
+pub silent_is_lawful : (faults link_faults quiets : ℕ) → IsLawful (silent faults link_faults quiets)
+silent_is_lawful faults link_faults quiets = without_file_is_lawful faults (record { world = None; faults = link_faults; quiets = quiets })

@@ -6,6 +6,8 @@ mod disk;
 mod failed;
 mod fault_plan;
 mod history;
+mod inbox;
+mod link_log;
 mod mem_disk;
 mod mem_sink;
 mod mem_site;

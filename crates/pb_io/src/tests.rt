@@ -36,16 +36,55 @@ fn a_source_in_memory_goes_to_a_sink_in_memory(rt: HostRuntime) -> Result<(), Fa
 }
 
 #[test]
-fn calls_that_are_not_built_fail(rt: HostRuntime) -> Result<(), Fail> {
+fn a_site_in_memory_hears_its_pieces_in_order(rt: HostRuntime) -> Result<(), Fail> {
     let alloc = rt.alloc();
-    let disk = MemDisk::new(alloc, b"kept", &[])?;
+    let mut site = MemSite::new(alloc, MemDisk::new(alloc, b"kept", &[])?, &[1, 6])?;
+    for piece in [b"hello".as_slice(), b"", b"!"] {
+        site.hears(piece)?;
+    }
+    let mut room = [0; 4];
+    for (came, bytes) in [
+        (Ok(4), b"hell".as_slice()),
+        (Err(Failed), b""),
+        (Ok(1), b"o"),
+        (Ok(0), b""),
+        (Ok(1), b"!"),
+        (Ok(0), b""),
+    ] {
+        assert_eq!(rt; site.recv(&mut room), came);
+        assert_eq!(rt; &room[..bytes.len()], bytes);
+    }
+    for (frame, sent) in [
+        (b"one".as_slice(), Err(Failed)),
+        (b"two", Ok(())),
+        (b"three", Ok(())),
+    ] {
+        assert_eq!(rt; site.send(frame), sent);
+    }
+    assert_eq!(rt; site.sent(0), Some(b"two".as_slice()));
+    assert_eq!(rt; site.sent(1), Some(b"three".as_slice()));
+    assert_eq!(rt; site.sent(2), None);
+    Ok(())
+}
+
+#[test]
+fn a_frame_is_answered(rt: HostRuntime) -> Result<(), Fail> {
+    let alloc = rt.alloc();
+    let mut site = MemSite::new(alloc, MemDisk::new(alloc, b"", &[])?, &[])?;
+    site.hears(b"pong")?;
+    let mut room = [0; 16];
+    assert_eq!(rt; send_and_recv(&mut site, b"ping", &mut room), Ok(4));
+    assert_eq!(rt; &room[..4], b"pong".as_slice());
+    assert_eq!(rt; site.sent(0), Some(b"ping".as_slice()));
+    Ok(())
+}
+
+#[test]
+fn disk_calls_that_are_not_built_fail(rt: HostRuntime) -> Result<(), Fail> {
+    let alloc = rt.alloc();
+    let mut disk = MemDisk::new(alloc, b"kept", &[])?;
     assert_eq!(rt; disk.bytes(), b"kept".as_slice());
-    let mut site = MemSite::new(alloc, disk, &[])?;
-    assert_eq!(rt; site.len(), Err(Failed));
-    assert_eq!(rt;
-        send_and_recv(&mut site, b"frame", &mut [0; 4]),
-        Err(Failed)
-    );
-    assert_eq!(rt; write_settled(&mut site, 0, b"new"), Err(Failed));
+    assert_eq!(rt; disk.len(), Err(Failed));
+    assert_eq!(rt; write_settled(&mut disk, 0, b"new"), Err(Failed));
     Ok(())
 }

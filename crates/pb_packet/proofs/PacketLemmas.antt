@@ -20,7 +20,7 @@ chosen false x y z e = inr (refl, e)
 no_error : {X : Type 0} (e : PacketFault) (y : X) → Err e ≡ Ok y → ⊥
 no_error e y h = cc
 
-ok_same : {X : Type 0} (x y : X) → ◌≡◌ {A = Result X PacketFault} (Ok x) (Ok y) → x ≡ y
+pub ok_same : {X : Type 0} (x y : X) → ◌≡◌ {A = Result X PacketFault} (Ok x) (Ok y) → x ≡ y
 ok_same x y e = cc
 
 behind-ok : {X Y : Type 0} (r : Result X PacketFault) (f : X → Result Y PacketFault) (y : Y) → behind r f ≡ Ok y → (x : X) × (r ≡ Ok x) × (f x ≡ Ok y)
@@ -31,18 +31,34 @@ with_address-ok : {X : Type 0} (k : ℕ) (content : List ℕ) (f : ℕ → Resul
     → (1 ≤ address_at k content) × (f (address_at k content) ≡ Ok y)
 with_address-ok k content f y e =
     elim (chosen (eqb (address_at k content) 0) (Err (NullAddress k)) (f (address_at k content)) (Ok y) e) [
-      inl w ↦ absurd (no_error (NullAddress k) y w.1)
-    | inr w ↦ (let no = eqb-false (address_at k content) 0 w.0 in omega arith, w.1) ]
+      | inl w ↦ absurd (no_error (NullAddress k) y w.1)
+      | inr w ↦ (let no = eqb-false (address_at k content) 0 w.0 in omega arith, w.1)
+    ]
 
 with_state-ok : {X : Type 0} (n : ℕ) (f : LinkState → Result X PacketFault) (y : X) → with_state n f ≡ Ok y
     → (s : LinkState) × (code_of s ≡ n) × (f s ≡ Ok y)
 with_state-ok n f y e =
-    elim (chosen (eqb n 8) (f OffLine) _ (Ok y) e) [ inl w ↦ (OffLine, sym (eqb-true n 8 w.0), w.1) | inr w ↦
-    elim (chosen (eqb n 9) (f Ring) _ (Ok y) w.1) [ inl v ↦ (Ring, sym (eqb-true n 9 v.0), v.1) | inr v ↦
-    elim (chosen (eqb n 10) (f Ready) _ (Ok y) v.1) [ inl u ↦ (Ready, sym (eqb-true n 10 u.0), u.1) | inr u ↦
-    elim (chosen (eqb n 11) (f Finished) _ (Ok y) u.1) [ inl t ↦ (Finished, sym (eqb-true n 11 t.0), t.1) | inr t ↦
-    elim (chosen (eqb n 12) (f Pause) (Err (ReservedState n)) (Ok y) t.1) [ inl s ↦ (Pause, sym (eqb-true n 12 s.0), s.1) | inr s ↦
-    absurd (no_error (ReservedState n) y s.1) ] ] ] ] ]
+    elim (chosen (eqb n 8) (f OffLine) _ (Ok y) e) [
+      | inl w ↦ (OffLine, sym (eqb-true n 8 w.0), w.1)
+      | inr w ↦
+          elim (chosen (eqb n 9) (f Ring) _ (Ok y) w.1) [
+            | inl v ↦ (Ring, sym (eqb-true n 9 v.0), v.1)
+            | inr v ↦
+                elim (chosen (eqb n 10) (f Ready) _ (Ok y) v.1) [
+                  | inl u ↦ (Ready, sym (eqb-true n 10 u.0), u.1)
+                  | inr u ↦
+                      elim (chosen (eqb n 11) (f Finished) _ (Ok y) u.1) [
+                        | inl t ↦ (Finished, sym (eqb-true n 11 t.0), t.1)
+                        | inr t ↦
+                            elim (chosen (eqb n 12) (f Pause) (Err (ReservedState n)) (Ok y) t.1) [
+                              | inl s ↦ (Pause, sym (eqb-true n 12 s.0), s.1)
+                              | inr s ↦
+                                  absurd (no_error (ReservedState n) y s.1)
+                            ]
+                      ]
+                ]
+          ]
+    ]
 
 with_state-code : {X : Type 0} (s : LinkState) (f : LinkState → Result X PacketFault) → with_state (code_of s) f ≡ f s
 with_state-code OffLine f = refl
@@ -130,7 +146,7 @@ phys_of-bytes content p bytes long e =
     let q = phys_of-parts content p e in
     subst (λ (x : Phys). content ≡ phys_bytes x ++ drop 4 content) q.4
     (first_four content long ∙ sym (two_words (get_or content 0 0) (get_or content 1 0) (get_or content 2 0) (get_or content 3 0)
-      (code_of q.0) ((bits_at 1 content / 4) * 4 + bits_at 1 content % 4) (drop 4 content) (bytes 1) (bytes 3) q.1 (quarters (bits_at 1 content))))
+    (code_of q.0) ((bits_at 1 content / 4) * 4 + bits_at 1 content % 4) (drop 4 content) (bytes 1) (bytes 3) q.1 (quarters (bits_at 1 content))))
 
 header_of-valid : (phys : Phys) (content : List ℕ) (h : Header) → IsBytes content → IsValidPhys phys → header_of phys content ≡ Ok h → IsValidHeader h
 header_of-valid phys content h bytes valid e =
@@ -147,15 +163,17 @@ header_of-bytes : (phys : Phys) (content : List ℕ) (h : Header) → IsBytes co
     → (h.phys ≡ phys) × (drop 4 content ≡ word h.proto h.dst ++ word h.hops h.src ++ drop 8 content)
 header_of-bytes phys content h bytes long e =
     let q = header_of-parts phys content h e in
-    subst (λ (x : Header). (x.phys ≡ phys) × (drop 4 content ≡ word x.proto x.dst ++ word x.hops x.src ++ drop 8 content)) q.2
-    (refl, next_four content long ∙ sym (two_words (get_or content 4 0) (get_or content 5 0) (get_or content 6 0) (get_or content 7 0)
-      (bits_at 2 content) (bits_at 3 content) (drop 8 content) (bytes 5) (bytes 7) refl refl))
+    subst (λ (x : Header). (x.phys ≡ phys) × (drop 4 content ≡ word x.proto x.dst ++ word x.hops x.src ++ drop 8 content)) q.2 (
+      refl,
+      next_four content long ∙ sym (two_words (get_or content 4 0) (get_or content 5 0) (get_or content 6 0) (get_or content 7 0)
+          (bits_at 2 content) (bits_at 3 content) (drop 8 content) (bytes 5) (bytes 7) refl refl),
+    )
 
 link_found : (content : List ℕ) (phys : Phys) → IsBytes content → length content ≡ 4 → phys_of content ≡ Ok phys → PacketBytes (link phys) content
 link_found content phys bytes four e = record {
-    valid = phys_of-valid content phys bytes e;
-    bytes = phys_of-bytes content phys bytes (omega arith) e ∙ ap (λ l. phys_bytes phys ++ l) (drop_all 4 content (omega arith));
-  }
+  valid = phys_of-valid content phys bytes e;
+  bytes = phys_of-bytes content phys bytes (omega arith) e ∙ ap (λ l. phys_bytes phys ++ l) (drop_all 4 content (omega arith));
+}
 
 full_found : (content : List ℕ) (phys : Phys) (h : Header) → IsBytes content → 8 ≤ length content → phys_of content ≡ Ok phys → header_of phys content ≡ Ok h
     → PacketBytes (full h (drop 8 content)) content
@@ -164,7 +182,7 @@ full_found content phys h bytes long e f =
     record {
       valid = header_of-valid phys content h bytes (phys_of-valid content phys bytes e) f;
       bytes = phys_of-bytes content phys bytes (omega arith) e ∙ ap (λ l. phys_bytes phys ++ l) b.1
-        ∙ ap (λ (x : Phys). phys_bytes x ++ (word h.proto h.dst ++ word h.hops h.src ++ drop 8 content)) (sym b.0);
+          ∙ ap (λ (x : Phys). phys_bytes x ++ (word h.proto h.dst ++ word h.hops h.src ++ drop 8 content)) (sym b.0);
     }
 
 pub packet_of-found : (content : List ℕ) (p : Seen) → IsBytes content → (length content ≡ 4) ⊎ (8 ≤ length content) → packet_of content ≡ Ok p → PacketBytes p content
@@ -172,11 +190,12 @@ packet_of-found content p bytes long e =
     let rest : Header → Result Seen PacketFault = λ h. Ok (full h (drop 8 content)) in
     let b = behind-ok (phys_of content) (λ (phys : Phys). cond (eqb (length content) 4) (Ok (link phys)) (behind (header_of phys content) rest)) p e in
     elim (chosen (eqb (length content) 4) (Ok (link b.0)) (behind (header_of b.0 content) rest) (Ok p) b.2) [
-      inl w ↦ subst (λ (x : Seen). PacketBytes x content) (ok_same _ _ w.1) (link_found content b.0 bytes (eqb-true (length content) 4 w.0) b.1)
-    | inr w ↦ let h = behind-ok (header_of b.0 content) rest p w.1 in
-        let no = eqb-false (length content) 4 w.0 in
-        let long_enough : 8 ≤ length content = elim long [ inl four ↦ absurd (no four) | inr eight ↦ eight ] in
-        subst (λ (x : Seen). PacketBytes x content) (ok_same _ _ h.2) (full_found content b.0 h.0 bytes long_enough b.1 h.1) ]
+      | inl w ↦ subst (λ (x : Seen). PacketBytes x content) (ok_same _ _ w.1) (link_found content b.0 bytes (eqb-true (length content) 4 w.0) b.1)
+      | inr w ↦ let h = behind-ok (header_of b.0 content) rest p w.1 in
+          let no = eqb-false (length content) 4 w.0 in
+          let long_enough : 8 ≤ length content = elim long [ inl four ↦ absurd (no four) | inr eight ↦ eight ] in
+          subst (λ (x : Seen). PacketBytes x content) (ok_same _ _ h.2) (full_found content b.0 h.0 bytes long_enough b.1 h.1)
+    ]
 
 -- ---- what is written is read
 
@@ -207,11 +226,11 @@ phys_of-again p rest valid =
     let more : bits_at 1 content / 4 ≡ p.more = omega (arith, second, valid.priority) in
     let priority : bits_at 1 content % 4 ≡ p.priority = omega (arith, second, valid.priority) in
     with_state-is (bits_at 0 content) p.state (λ (state : LinkState). with_address 0 content (λ dst. with_address 1 content (λ src. Ok (made_phys content state dst src))))
-      (written_bits (code_of p.state) p.dst valid.dst.1)
+    (written_bits (code_of p.state) p.dst valid.dst.1)
     ∙ with_address-is 0 content (λ (dst : ℕ). with_address 1 content (λ src. Ok (made_phys content p.state dst src))) p.dst
-      (written_address (code_of p.state) p.dst valid.dst.1) valid.dst.0
+    (written_address (code_of p.state) p.dst valid.dst.1) valid.dst.0
     ∙ with_address-is 1 content (λ (src : ℕ). Ok (made_phys content p.state p.dst src)) p.src
-      (written_address (p.more * 4 + p.priority) p.src valid.src.1) valid.src.0
+    (written_address (p.more * 4 + p.priority) p.src valid.src.1) valid.src.0
     ∙ ap (λ (m : ℕ). Ok (phys_with p.state p.dst p.src m (bits_at 1 content % 4))) more
     ∙ ap (λ (n : ℕ). Ok (phys_with p.state p.dst p.src p.more n)) priority
 
@@ -219,9 +238,9 @@ pub header_of-again : (h : Header) (message : List ℕ) → IsValidHeader h → 
 header_of-again h message valid =
     let content = packet_bytes (full h message) in
     with_address-is 2 content (λ (dst : ℕ). with_address 3 content (λ src. Ok (made_header content h.phys dst src))) h.dst
-      (written_address h.proto h.dst valid.dst.1) valid.dst.0
+    (written_address h.proto h.dst valid.dst.1) valid.dst.0
     ∙ with_address-is 3 content (λ (src : ℕ). Ok (made_header content h.phys h.dst src)) h.src
-      (written_address h.hops h.src valid.src.1) valid.src.0
+    (written_address h.hops h.src valid.src.1) valid.src.0
     ∙ ap (λ (n : ℕ). Ok (header_with h.phys h.dst h.src n (bits_at 3 content))) (written_bits h.proto h.dst valid.dst.1)
     ∙ ap (λ (n : ℕ). Ok (header_with h.phys h.dst h.src h.proto n)) (written_bits h.hops h.src valid.src.1)
 

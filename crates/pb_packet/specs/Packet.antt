@@ -35,9 +35,12 @@ word bits address = (bits * 16 + address / 256) ∷ address % 256 ∷ []
 abbrev pub phys_bytes : Phys → List ℕ
 phys_bytes p = word (code_of p.state) p.dst ++ word (p.more * 4 + p.priority) p.src
 
+abbrev pub header_bytes : Header → List ℕ
+header_bytes h = phys_bytes h.phys ++ word h.proto h.dst ++ word h.hops h.src
+
 abbrev pub packet_bytes : Seen → List ℕ
 packet_bytes (link p) = phys_bytes p
-packet_bytes (full h message) = phys_bytes h.phys ++ word h.proto h.dst ++ word h.hops h.src ++ message
+packet_bytes (full h message) = header_bytes h ++ message
 
 abbrev pub IsAddress : ℕ → Type 0
 IsAddress n = (1 ≤ n) × (n ≤ 4095)
@@ -59,6 +62,20 @@ pub record IsValidHeader (h : Header) : Type 0 where
 abbrev pub IsValid : Seen → Type 0
 IsValid (link p) = IsValidPhys p
 IsValid (full h message) = IsValidHeader h
+
+-- The numbers beside the addresses have room; an address of a node always has.
+pub record FitsPhys (p : Phys) : Type 0 where
+  pub more : p.more ≤ 3
+  pub priority : p.priority ≤ 3
+
+pub record FitsHeader (h : Header) : Type 0 where
+  pub phys : FitsPhys h.phys
+  pub proto : h.proto ≤ 15
+  pub hops : h.hops ≤ 15
+
+abbrev pub Fits : Seen → Type 0
+Fits (link p) = FitsPhys p
+Fits (full h message) = FitsHeader h
 
 -- the content is that of the packet: its words, and then its message
 pub record PacketBytes (packet : Seen) (content : List ℕ) : Type 0 where

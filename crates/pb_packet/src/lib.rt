@@ -2,7 +2,14 @@
 #![tactic(auto)]
 
 mod headers;
+mod laws;
 mod reading;
+mod writing;
 
 pub use headers::{Header, LinkState, Packet, PacketFault, Phys};
+pub use laws::written_is_read;
 pub use reading::read;
+pub use writing::write;
+
+#[cfg(test)]
+mod tests;

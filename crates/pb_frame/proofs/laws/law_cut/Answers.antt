@@ -1,4 +1,4 @@
-use Rattle.pb_frame.proofs.LawLemmas.{cut-whole, no_flag-head, no_flag-texts}
+use Rattle.pb_frame.proofs.CutLemmas.{cut-whole, no_flag-head, no_flag-texts}
 use Rattle.pb_frame.proofs.laws.law_cut.Goals as goal
 
 pub returns-clause-whole : goal.returns-clause-whole

@@ -1,4 +1,4 @@
-use Rattle.pb_frame.proofs.LawLemmas.{fault-has, fault-first}
+use Rattle.pb_frame.proofs.FaultLemmas.{fault-has, fault-first}
 use Rattle.pb_frame.proofs.laws.law_fault.Goals as goal
 
 pub returns-clause-has : goal.returns-clause-has

@@ -1,4 +1,4 @@
-use Rattle.pb_frame.proofs.LawLemmas.{pieces-pieces}
+use Rattle.pb_frame.proofs.CutLemmas.{pieces-pieces}
 use Rattle.pb_frame.proofs.laws.law_pieces.Goals as goal
 
 pub returns : goal.returns

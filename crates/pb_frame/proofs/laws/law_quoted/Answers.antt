@@ -1,7 +1,7 @@
 use Rattle.std.proofs.Common.{sym, subst}
 use Rattle.pb_frame.specs.Framing.{Quoted}
 use Rattle.pb_frame.proofs.QuotedLemmas.{Quoted-text, Quoted-quoted}
-use Rattle.pb_frame.proofs.LawLemmas.{one_body}
+use Rattle.pb_frame.proofs.ReadLemmas.{one_body}
 use Rattle.pb_frame.proofs.laws.law_quoted.Goals as goal
 
 pub returns-clause-text : goal.returns-clause-text

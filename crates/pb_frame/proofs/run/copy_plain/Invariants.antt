@@ -1,4 +1,4 @@
-use Rattle.std.proofs.Common.{◌-◌, ◌≡◌, ◌+◌, ◌*◌, ◌≤◌, All, length, take, min}
+use Rattle.std.proofs.Common.{◌-◌, ◌≡◌, ◌+◌, ◌*◌, ◌≤◌, All, take}
 use Rattle.pb_frame.specs.Signature.{sig}
 use Rattle.pb_frame.specs.Framing.{IsPlain}
 use Rattle.pb_frame.proofs.run.copy_plain.Given as goal

@@ -1,4 +1,4 @@
-use Rattle.std.proofs.Common.{arith, take, length, ◌++◌, refl, ◌≡◌, ◌+◌}
+use Rattle.std.proofs.Common.{arith, take, ◌++◌, refl}
 use Rattle.std.proofs.KnownBytes.{Appends-trans, Consumes-trans}
 use Rattle.pb_io.proofs.CopyLemmas.{length-more, AppendsFront-more}
 use Rattle.pb_io.proofs.copy.copy_all.Goals as goal

@@ -1,4 +1,4 @@
-use Rattle.std.proofs.Common.{refl, sym, ap, ◌∙◌, is_some, inl, inr}
+use Rattle.std.proofs.Common.{sym, ap, ◌∙◌, is_some, inl, inr}
 use Rattle.pb_frame.specs.declared.state.State.TheVariants.{Plain, Quoting}
 use Rattle.pb_frame.specs.Hearing.{Hearing}
 use Rattle.pb_frame.proofs.TurnLemmas.{unfinished-at, unfinished-not}

@@ -1,4 +1,4 @@
-use Rattle.std.proofs.Common.{arith, refl, sym, ap, ◌∙◌, Some}
+use Rattle.std.proofs.Common.{sym, ap, ◌∙◌, Some}
 use Rattle.pb_frame.specs.Hearing.{Hearing}
 use Rattle.pb_frame.proofs.TurnLemmas.{unfinished-piece}
 use Rattle.pb_frame.proofs.unframer.Unframer.piece.Goals as goal

@@ -1,6 +1,5 @@
-use Rattle.std.proofs.Common.{◌+◌, ◌++◌, take, length, arith, sym, ap, ◌∙◌}
+use Rattle.std.proofs.Common.{◌+◌, ◌++◌, take, arith, sym, ap, ◌∙◌}
 use Rattle.std.proofs.lemmas.List.{length-take-le}
-use Rattle.pb_frame.specs.declared.state.State.TheVariants.{Skipping, Plain}
 use Rattle.pb_frame.specs.Hearing.{Hearing, hearing}
 use Rattle.pb_frame.proofs.TurnLemmas.{Follows-run, Follows-skipped}
 use Rattle.pb_frame.proofs.unframer.Unframer.take_plain.Goals as goal

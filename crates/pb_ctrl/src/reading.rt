@@ -1,0 +1,68 @@
+ghost use Rattle.std.specs.Prelude.{◌≡◌, ℕ, ◌<◌, ◌≤◌, ◌↔◌, length, slice_index, Ok, Err, IfOk, IfErr};
+ghost use Rattle.pb_base.specs.Fields.{whole};
+ghost use Rattle.pb_layout.specs.Reading.{reading, Gives};
+ghost use Rattle.pb_ctrl.specs.Message.{Message, told, hello, hello_reply, layout, IsType, MessageReads};
+
+use crate::message::{Ctrl, HELLO, HELLO_REPLY};
+use pb_base::MessageFault;
+use pb_layout::Keys;
+
+/// Reads a PakCtrl message. Bytes behind a layout's end are passed over.
+pub fn read(message: &[u8]) -> Result<Ctrl, MessageFault>
+    // What was read is what the bytes read as.
+    ensures found { IfOk result (λ m. MessageReads (told m) message.now) }
+    // What the bytes read as is read.
+    ensures only { (m : Message) → MessageReads m message.now → Gives told result (Ok m) }
+    // Of fewer than two bytes the type or the transaction is missing.
+    ensures short { length message.now < 2 → result ≡ Err (MessageFault.Malformed (length message.now)) }
+    // A type is unknown where there are two bytes and the first is no type.
+    ensures unknown { (n : ℕ) → (result ≡ Err (MessageFault.UnknownType n)) ↔ ((2 ≤ length message.now) × (slice_index message.now 0 ≡ n) × (IsType n → ⊥)) }
+    // Every refusal is that of the first key that can't be read.
+    ensures refused { IfErr result (λ fault. reading layout (whole message.now) ≡ Err fault) }
+{
+    read_all(message)
+}
+
+#[tactic(auto, unfolding(pb_layout::specs::Reading::reading))]
+fn read_all(message: &[u8]) -> Result<Ctrl, MessageFault>
+    ensures { Gives told result (reading layout (whole message.now)) }
+{
+    let mut keys = Keys::new(message);
+    let kind = keys.byte()?;
+    let tran = keys.byte()?;
+    match kind {
+        HELLO => read_hello(tran, &mut keys),
+        HELLO_REPLY => read_hello_reply(tran, &mut keys),
+        _ => Err(MessageFault::UnknownType(kind)),
+    }
+}
+
+#[tactic(auto, unfolding(pb_layout::specs::Reading::reading))]
+fn read_hello(tran: u8, keys: &mut Keys) -> Result<Ctrl, MessageFault>
+    ensures { Gives told result (reading (hello tran) keys.old) }
+{
+    let router = keys.byte()?;
+    let metric = keys.byte()?;
+    let verify = keys.half()?;
+    Ok(Ctrl::Hello {
+        tran,
+        router,
+        metric,
+        verify,
+    })
+}
+
+#[tactic(auto, unfolding(pb_layout::specs::Reading::reading))]
+fn read_hello_reply(tran: u8, keys: &mut Keys) -> Result<Ctrl, MessageFault>
+    ensures { Gives told result (reading (hello_reply tran) keys.old) }
+{
+    let router = keys.byte()?;
+    let metric = keys.byte()?;
+    let verify = keys.half()?;
+    Ok(Ctrl::HelloReply {
+        tran,
+        router,
+        metric,
+        verify,
+    })
+}

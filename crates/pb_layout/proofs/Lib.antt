@@ -1,0 +1,6 @@
+pub mod Steps
+pub mod ListLaws
+pub mod KeyLaws
+pub mod LayoutLaws
+pub mod PieceLaws
+pub mod FaultLaws
