@@ -2,10 +2,10 @@
 use Rattle.std.proofs.Common.{◌≡◌, ℕ, eqb, false, refl, sym, subst, inl, inr}
 use Rattle.std.proofs.lemmas.Bool.{ne_eqb}
 use Rattle.pb_base.specs.declared.message.MessageFault.TheVariants.{UnknownType}
-use Rattle.pb_layout.specs.Layout.{MessageLayout, Stop, Values, made}
+use Rattle.pb_layout.specs.Layout.{Stop, Values, made}
 use Rattle.pb_layout.proofs.LayoutLaws.{at_type}
 use Rattle.pb_layout.proofs.FaultLaws.{NoStop}
-use Rattle.pb_ctrl.specs.Message.{Message, of_type, layout, IsType, keys}
+use Rattle.pb_ctrl.specs.Message.{of_type, layout, IsType, keys}
 
 abbrev HasKeys : ℕ → ℕ → Type 0
 HasKeys tran type = (values : Values (of_type type tran)) → keys (made (of_type type tran) values) ≡ (type, (tran, values))

@@ -2,7 +2,7 @@
 use Rattle.std.specs.Prelude.{◌≡◌, ◌⊎◌, ℕ, List, ◌==◌, if◌then◌else◌}
 use Rattle.pb_base.specs.declared.message.MessageFault.TheVariants.{UnknownType}
 use Rattle.pb_layout.specs.Kind.{Byte, Half}
-use Rattle.pb_layout.specs.Layout.{MessageLayout, Done, Stop, Key, ◌>>=◌, Values, AllFit, MayEnd, IsValid, ReadsAs, bytes_of}
+use Rattle.pb_layout.specs.Layout.{MessageLayout, Done, Stop, ◌>>=◌, Values, AllFit, MayEnd, IsValid, ReadsAs, bytes_of}
 use Rattle.pb_ctrl.specs.declared.message.Ctrl.{Ctrl}
 use Rattle.pb_ctrl.specs.declared.message.Ctrl.TheVariants as ctrl
 

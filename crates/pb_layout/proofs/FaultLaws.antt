@@ -3,12 +3,12 @@ use Rattle.std.proofs.Common.{◌≡◌, ℕ, zero, suc, ◌+◌, ◌<◌, ◌�
 use Rattle.pb_base.specs.declared.fields.FieldFault.{FieldFault}
 use Rattle.pb_base.specs.declared.message.MessageFault.{MessageFault}
 use Rattle.pb_base.specs.declared.message.MessageFault.TheVariants.{UnknownType, Malformed}
-use Rattle.pb_base.specs.Fields.{Unread, IsBytes, behind, bytes_at, number_at, whole, unread}
+use Rattle.pb_base.specs.Fields.{Unread, IsBytes, bytes_at, number_at, whole, unread}
 use Rattle.std.specs.Int.{w8, w16}
 use Rattle.pb_base.proofs.FieldLaws.{byte-again}
 use Rattle.pb_layout.specs.Kind.{Kind, Byte, Between, Half, Word, Split, Time, Text, Rest, AtMost, Numbers, Settings, Value}
 use Rattle.pb_layout.specs.Layout.{MessageLayout, Done, Stop, Key}
-use Rattle.pb_layout.specs.Reading.{and_then, field, within, split, with_number, numbers_at, setting_at, settings_at, key_at, reading, Gives}
+use Rattle.pb_layout.specs.Reading.{and_then, field, within, with_number, numbers_at, setting_at, settings_at, key_at, reading, Gives}
 
 abbrev pub IsMalformed : MessageFault → Type 0
 IsMalformed (UnknownType n) = ⊥

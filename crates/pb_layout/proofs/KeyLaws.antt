@@ -1,17 +1,16 @@
 -- A key that is read is a key that was written, and what was written is read again, at its place.
-use Rattle.std.proofs.Common.{◌≡◌, ℕ, ◌+◌, ◌*◌, ◌/◌, ◌%◌, ◌^◌, ◌<◌, ◌≤◌, min, Bool, true, false, cond, leb, ltb, eqb, ◌&&◌, List, [], ◌∷◌, ◌++◌, length, take, drop, Result, Ok, Err, refl, sym, ap, subst, ◌∙◌, append_assoc, arith, inl, inr}
+use Rattle.std.proofs.Common.{◌≡◌, ℕ, ◌+◌, ◌*◌, ◌/◌, ◌%◌, ◌^◌, ◌<◌, ◌≤◌, min, Bool, true, false, cond, leb, ◌&&◌, List, [], ◌∷◌, ◌++◌, length, take, drop, Result, Ok, Err, refl, sym, ap, subst, ◌∙◌, arith, inl, inr}
 use Rattle.std.specs.Int.{w8, w16, w32, to_be_bytes}
-use Rattle.std.proofs.lemmas.Bool.{ltb-false, le-ltb, leb-true, le-leb, cases_lt}
+use Rattle.std.proofs.lemmas.Bool.{leb-true, le-leb, cases_lt}
 use Rattle.std.proofs.lemmas.List.{append-nil, take_at, drop_at, take-append-drop, length-append, length-take, length-drop, take_min, drop_all, nil_from_length}
 use Rattle.pb_base.specs.declared.fields.FieldFault.{FieldFault}
 use Rattle.pb_base.specs.declared.message.MessageFault.{MessageFault}
 use Rattle.pb_base.specs.declared.message.MessageFault.TheVariants.{Malformed}
 use Rattle.pb_base.specs.Fields.{Unread, IsBytes, Takes, behind, number_at}
-use Rattle.pb_base.specs.Time.{time_bytes}
-use Rattle.pb_base.proofs.FieldLaws.{IsBytes-drop, wide8, wide16, wide32, number-takes, number-again, byte-takes, byte-again}
+use Rattle.pb_base.proofs.FieldLaws.{IsBytes-drop, wide16, wide32, number-takes, number-again, byte-takes, byte-again}
 use Rattle.pb_base.proofs.TextLaws.{text-takes, text-again, time-takes, time-again}
 use Rattle.pb_layout.specs.Kind.{Kind, Byte, Between, Half, Word, Split, Time, Text, Rest, AtMost, Numbers, Settings, Value, spell, Fits, Obeys, MayFollow}
-use Rattle.pb_layout.specs.Reading.{and_then, field, within, split, front_at, numbers_at, settings_at, key_at}
+use Rattle.pb_layout.specs.Reading.{and_then, field, within, split, settings_at, key_at}
 use Rattle.pb_layout.proofs.Steps.{ok_is, and_ok, field_ok}
 use Rattle.pb_layout.proofs.ListLaws.{numbers-take, numbers-again, settings-take, settings-again}
 

@@ -1,9 +1,9 @@
 -- What a layout reads is what its values spell, and what they spell is read again.
-use Rattle.std.proofs.Common.{◌≡◌, ℕ, ◌+◌, List, [], ◌++◌, length, Bool, true, false, eqb, Result, Ok, Err, IfOk, refl, sym, ap, subst, ◌∙◌, append_assoc}
+use Rattle.std.proofs.Common.{◌≡◌, ℕ, ◌+◌, List, ◌++◌, length, Bool, true, false, eqb, Result, Ok, Err, IfOk, refl, sym, ap, subst, ◌∙◌, append_assoc}
 use Rattle.std.proofs.lemmas.Bool.{eqb-true}
 use Rattle.pb_base.specs.declared.message.MessageFault.{MessageFault}
-use Rattle.pb_base.specs.Fields.{Unread, IsBytes, Takes, whole}
-use Rattle.pb_layout.specs.Kind.{Kind, Value, spell, Fits, Obeys, MayFollow}
+use Rattle.pb_base.specs.Fields.{Unread, IsBytes, whole}
+use Rattle.pb_layout.specs.Kind.{Value, spell, MayFollow}
 use Rattle.pb_layout.specs.Layout.{MessageLayout, Done, Stop, Key, Values, made, spelled, AllFit, AllObey, MayEnd, IsValid, bytes_of, ReadsAs}
 use Rattle.pb_layout.specs.Reading.{and_then, key_at, reading, Gives}
 use Rattle.pb_layout.proofs.Steps.{ok_is, and_ok}

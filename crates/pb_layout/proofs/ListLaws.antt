@@ -1,12 +1,11 @@
 -- Lists of numbers and of settings that are read are those that were written.
-use Rattle.std.proofs.Common.{◌≡◌, ℕ, zero, suc, ◌+◌, ◌^◌, ◌<◌, ◌≤◌, Bool, true, false, cond, eqb, List, [], ◌∷◌, ◌++◌, length, Result, Ok, Err, refl, sym, ap, subst, ◌∙◌, append_assoc, arith, ◌⊎◌, inl, inr}
+use Rattle.std.proofs.Common.{◌≡◌, ℕ, zero, suc, ◌+◌, ◌^◌, ◌≤◌, Bool, true, false, cond, eqb, List, [], ◌∷◌, ◌++◌, length, Result, Ok, refl, sym, ap, subst, ◌∙◌, arith, ◌⊎◌, inl, inr}
 use Rattle.std.specs.List.{flat_map, AllByRecursion}
 use Rattle.std.specs.Int.{w16, to_be_bytes}
-use Rattle.std.proofs.lemmas.Bool.{eqb-true, eqb-false, eq-eqb, ne_eqb}
-use Rattle.std.proofs.lemmas.List.{append-nil, length-append, nil_from_length}
+use Rattle.std.proofs.lemmas.Bool.{eqb-true, eqb-false, ne_eqb}
+use Rattle.std.proofs.lemmas.List.{length-append, nil_from_length}
 use Rattle.pb_base.specs.declared.fields.FieldFault.{FieldFault}
 use Rattle.pb_base.specs.declared.message.MessageFault.{MessageFault}
-use Rattle.pb_base.specs.declared.message.MessageFault.TheVariants.{Malformed}
 use Rattle.pb_base.specs.Fields.{Unread, IsBytes, Takes, bytes_at, number_at}
 use Rattle.pb_base.proofs.FieldLaws.{wide16, number-takes, number-again, bytes-takes, bytes-again, Takes-then}
 use Rattle.pb_layout.specs.Kind.{AreNumbers, Setting, setting_bytes, IsSetting, AreSettings}

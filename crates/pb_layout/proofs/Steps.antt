@@ -1,5 +1,5 @@
 -- The steps of a reading that didn't fail.
-use Rattle.std.proofs.Common.{◌≡◌, Result, Ok, Err, refl, ap}
+use Rattle.std.proofs.Common.{◌≡◌, Result, Ok, Err, refl}
 use Rattle.pb_base.specs.declared.fields.FieldFault.{FieldFault}
 use Rattle.pb_base.specs.declared.message.MessageFault.{MessageFault}
 use Rattle.pb_base.specs.Fields.{Unread}

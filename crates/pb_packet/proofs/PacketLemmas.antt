@@ -1,5 +1,5 @@
 -- What reads as a packet has that packet's bytes, and the bytes of a packet read as it.
-use Rattle.std.proofs.Common.{◌≡◌, ℕ, suc, ◌+◌, ◌*◌, ◌/◌, ◌%◌, ◌<◌, ◌≤◌, ◌⊎◌, Bool, true, false, cond, eqb, List, [], ◌∷◌, ◌++◌, length, drop, get_or, Result, Ok, Err, IfOk, IsOkAnd, MatchResult, refl, sym, ap, subst, ◌∙◌, inl, inr, arith}
+use Rattle.std.proofs.Common.{◌≡◌, ℕ, ◌+◌, ◌*◌, ◌/◌, ◌%◌, ◌<◌, ◌≤◌, ◌⊎◌, Bool, true, false, cond, eqb, List, [], ◌∷◌, ◌++◌, length, drop, get_or, Result, Ok, Err, IfOk, IsOkAnd, MatchResult, refl, sym, ap, subst, ◌∙◌, inl, inr, arith}
 use Rattle.std.proofs.lemmas.List.{drop_more, drop_all}
 use Rattle.std.proofs.lemmas.Bool.{eqb-true, eqb-false, ne_eqb, cond-false}
 use Rattle.pb_packet.specs.declared.headers.LinkState.{LinkState}
@@ -9,7 +9,7 @@ use Rattle.pb_packet.specs.declared.headers.Header.{Header}
 use Rattle.pb_packet.specs.declared.headers.PacketFault.{PacketFault}
 use Rattle.pb_packet.specs.declared.headers.PacketFault.TheVariants.{ReservedState, NullAddress}
 use Rattle.pb_packet.specs.declared.headers.Packet.{Packet}
-use Rattle.pb_packet.specs.Packet.{Seen, seen, link, full, code_of, word, phys_bytes, packet_bytes, IsAddress, IsValidPhys, IsValidHeader, IsValid, PacketBytes, bits_at, address_at, with_state, with_address, phys_of, header_of, behind, packet_of}
+use Rattle.pb_packet.specs.Packet.{Seen, seen, link, full, code_of, word, phys_bytes, packet_bytes, IsValidPhys, IsValidHeader, IsValid, PacketBytes, bits_at, address_at, with_state, with_address, phys_of, header_of, behind, packet_of}
 
 -- ---- steps that may refuse
 

@@ -1,4 +1,4 @@
-use Rattle.std.proofs.Common.{arith, ◌≡◌, ◌≤◌, List, ℕ, length, ap}
+use Rattle.std.proofs.Common.{arith, ◌≤◌, length, ap}
 use Rattle.pb_base.specs.Put.{Writing}
 use Rattle.pb_layout.specs.declared.pieces.Piece.TheVariants.{Byte}
 use Rattle.pb_layout.specs.Pieces.{pieces_bytes}
