@@ -1,6 +1,7 @@
+mod ChangeLogLemmas
 mod CopyLemmas
 pub mod CrashLemmas
-mod LinkLogLemmas
+mod DiskLemmas
 mod MemSiteLemmas
 pub mod Moments
 pub mod SinkLemmas

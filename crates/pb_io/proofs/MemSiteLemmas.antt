@@ -2,7 +2,7 @@
 use Rattle.std.proofs.Common.{◌≡◌, ℕ, ◌<◌, ◌≤◌, List, [], ◌∷◌, ◌++◌, length, take, Some, refl, sym, ◌∙◌, ap, arith}
 use Rattle.std.proofs.lemmas.List.{take_at, length-take-le}
 use Rattle.pb_base.specs.World.{World, Quiet, all_heard}
-use Rattle.pb_io.specs.LinkLog.{arrival}
+use Rattle.pb_io.specs.ChangeLog.{arrival}
 use Rattle.pb_io.specs.Site.{GrowsBy}
 use Rattle.pb_io.proofs.WorldLemmas.{GrowsBy-told, stream-heard}
 

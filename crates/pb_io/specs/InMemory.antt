@@ -1,8 +1,8 @@
 -- What contracts see of the forms in memory.
-use Rattle.std.specs.Prelude.{ℕ, List, Some}
-use Rattle.pb_base.specs.World.{World}
+use Rattle.std.specs.Prelude.{ℕ, List}
 use Rattle.pb_io.specs.Calls.{Calls}
-use Rattle.pb_io.specs.Told.{Told, without_file}
+use Rattle.pb_io.specs.DiskLog.{DiskLog, tells}
+use Rattle.pb_io.specs.Told.{Told}
 
 -- the bytes that are left, and the greatest number that one read gives
 pub record Supply : Type 0 where
@@ -15,14 +15,13 @@ pub record Store : Type 0 where
   pub bytes : List ℕ
   pub calls : Calls
 
--- a disk, the pieces that are to be heard, what was sent, heard and quiet so far, and the count of quiet ticks
+-- a disk, the calls of the link over it, the pieces that are to be heard, and the count of quiet ticks
 pub record Place : Type 0 where
-  pub disk : Store
+  pub disk : DiskLog
   pub calls : Calls
   pub waiting : List (List ℕ)
-  pub world : World
   pub quiets : ℕ
 
--- what a site in memory tells: the world, and nothing of its disk's content
+-- what a site in memory tells: its disk, and the world but no history
 abbrev pub told_by : Place → Told
-told_by site = without_file site.disk.calls.faults (record { world = Some site.world; faults = site.calls.faults; quiets = site.quiets })
+told_by site = tells site.disk site.calls.faults site.quiets

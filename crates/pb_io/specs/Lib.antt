@@ -1,11 +1,13 @@
 pub mod Calls
+pub mod ChangeLog
 pub mod Copy
 pub mod Crash
 pub mod Disk
+pub mod DiskLaws
+pub mod DiskLog
 pub mod Faults
 pub mod InMemory
 pub mod Inbox
-pub mod LinkLog
 pub mod Settled
 pub mod Sink
 pub mod Site

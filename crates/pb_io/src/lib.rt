@@ -1,13 +1,13 @@
 //! The outside as the layers above see it: where bytes come from and go to.
 #![tactic(auto)]
 
+mod change_log;
 mod copy;
 mod disk;
 mod failed;
 mod fault_plan;
 mod history;
 mod inbox;
-mod link_log;
 mod mem_disk;
 mod mem_sink;
 mod mem_site;

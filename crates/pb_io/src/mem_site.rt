@@ -3,15 +3,16 @@ ghost use Rattle.std.specs.Option.{option_copied};
 ghost use Rattle.pb_base.specs.World.{sent};
 ghost use Rattle.pb_io.specs.Calls.{is_listed, after_call, no_calls};
 ghost use Rattle.pb_io.specs.Disk.{Looks};
+ghost use Rattle.pb_io.specs.DiskLaws.{disk_is_lawful};
+ghost use Rattle.pb_io.specs.DiskLog.{world_of};
 ghost use Rattle.pb_io.specs.Faults.{HasCause};
 ghost use Rattle.pb_io.specs.Inbox.{next_piece, without};
 ghost use Rattle.pb_io.specs.InMemory.{told_by};
 ghost use Rattle.pb_io.specs.Site.{Sends, Receives, Ticks};
-ghost use Rattle.pb_io.specs.Told.{Elapses, without_file_is_lawful};
+ghost use Rattle.pb_io.specs.Told.{Elapses};
 
 use crate::fault_plan::FaultPlan;
 use crate::inbox::Inbox;
-use crate::link_log::LinkLog;
 use crate::{Disk, Failed, MemDisk, Site};
 use pb_base::Memory;
 use std::alloc::Global;
@@ -25,7 +26,6 @@ pub struct MemSite {
     disk: MemDisk,
     plan: FaultPlan,
     inbox: Inbox,
-    log: LinkLog,
     quiets: u64,
 }
 
@@ -34,21 +34,20 @@ impl Model for MemSite {
 
     ghost Value = { Place };
 
-    ghost view = { λ s. record { disk = s.disk; calls = s.plan; waiting = s.inbox; world = s.log; quiets = s.quiets } };
+    ghost view = { λ s. record { disk = s.disk; calls = s.plan; waiting = s.inbox; quiets = s.quiets } };
 }
 
 impl MemSite {
     /// A site with this disk, to which nothing happened. The calls of `send` and `recv` together whose numbers, from
     /// 0, stand in `fails` fail; they count too. The disk counts its own.
     pub fn new(alloc: Global, disk: MemDisk, fails: &[u64]) -> Result<MemSite, Memory>
-        ensures { IfOk result (λ s. s ≡ record { disk = disk; calls = no_calls fails.now; waiting = []; world = []; quiets = 0 }) }
+        ensures { IfOk result (λ s. s ≡ record { disk = disk; calls = no_calls fails.now; waiting = []; quiets = 0 }) }
     {
         Ok(MemSite {
             alloc,
             disk,
             plan: FaultPlan::new(alloc, fails).map_err(|_| Memory)?,
             inbox: Inbox::new(alloc),
-            log: LinkLog::new(alloc),
             quiets: 0,
         })
     }
@@ -64,9 +63,9 @@ impl MemSite {
 
     /// The n-th frame that was sent, from 0; `None` where there are fewer.
     pub fn sent(&self, n: usize) -> Option<&[u8]>
-        ensures { option_copied result ≡ slice_get (sent self.now.world) n }
+        ensures { option_copied result ≡ slice_get (sent (world_of self.now.disk.changes)) n }
     {
-        self.log.frame(n)
+        self.disk.frame(n)
     }
 }
 
@@ -93,7 +92,7 @@ impl Disk for MemSite {
         self.disk.sync()
     }
 
-    ghost lawful = { λ s. without_file_is_lawful s.disk.calls.faults (told_by s).link };
+    ghost lawful = { λ s. disk_is_lawful s.disk s.calls.faults s.quiets };
 }
 
 impl Site for MemSite {
@@ -106,15 +105,14 @@ impl Site for MemSite {
         ensures time { Elapses (told_by self.old) (told_by self.new) }
         ensures cause { HasCause self.old.calls.faults self.new.calls.faults result }
         ensures listed { IsTrue (is_listed self.old.calls) → IsErr result }
-        ensures failed { OnErr result (self.new.world ≡ self.old.world) }
         ensures calls { self.new.calls ≡ after_call self.old.calls (is_err result) }
         ensures waiting { self.new.waiting ≡ self.old.waiting }
-        ensures same_disk { self.new.disk ≡ self.old.disk }
+        ensures unchanged { OnErr result (self.new.disk ≡ self.old.disk) }
     {
         self.plan.call()?;
-        if self.log.sent(self.alloc, frame).is_err() {
+        let Ok(()) = self.disk.sent(frame) else {
             return Err(self.plan.fault());
-        }
+        };
         Ok(())
     }
 
@@ -131,12 +129,12 @@ impl Site for MemSite {
         ensures taken { IfOk result (λ n. (n ≡ min (length to.old) (length (next_piece self.old.waiting))) × (take n to.new ≡ take n (next_piece self.old.waiting)) × (self.new.waiting ≡ without n self.old.waiting)) }
         ensures failed { OnErr result (self.new.waiting ≡ self.old.waiting) }
         ensures calls { self.new.calls ≡ after_call self.old.calls (is_err result) }
-        ensures same_disk { self.new.disk ≡ self.old.disk }
+        ensures unchanged { OnErr result (self.new.disk ≡ self.old.disk) }
     {
         self.plan.call()?;
         let piece = self.inbox.next();
         let n = piece.len().min(to.len());
-        let Ok(()) = self.log.received(self.alloc, &piece[..n]) else {
+        let Ok(()) = self.disk.received(&piece[..n]) else {
             return Err(self.plan.fault());
         };
         to[..n].copy_from_slice(&piece[..n]);

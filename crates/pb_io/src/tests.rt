@@ -80,11 +80,18 @@ fn a_frame_is_answered(rt: HostRuntime) -> Result<(), Fail> {
 }
 
 #[test]
-fn disk_calls_that_are_not_built_fail(rt: HostRuntime) -> Result<(), Fail> {
+fn a_disk_in_memory_keeps_what_was_written(rt: HostRuntime) -> Result<(), Fail> {
     let alloc = rt.alloc();
-    let mut disk = MemDisk::new(alloc, b"kept", &[])?;
-    assert_eq!(rt; disk.bytes(), b"kept".as_slice());
-    assert_eq!(rt; disk.len(), Err(Failed));
-    assert_eq!(rt; write_settled(&mut disk, 0, b"new"), Err(Failed));
+    let mut disk = MemDisk::new(alloc, b"PakBus", &[2])?;
+    assert_eq!(rt; write_in_order(&mut disk, 3, b"ket!", 0, b"p"), Err(Failed));
+    assert_eq!(rt; disk.bytes(), b"Pakket!".as_slice());
+    assert_eq!(rt; write_settled(&mut disk, 0, b"p"), Ok(()));
+    assert_eq!(rt; disk.len(), Ok(7));
+    let mut room = [0; 3];
+    assert_eq!(rt; disk.read_at(4, &mut room), Ok(()));
+    assert_eq!(rt; room.as_slice(), b"et!".as_slice());
+    assert_eq!(rt; disk.cut(6), Ok(()));
+    assert_eq!(rt; disk.sync(), Ok(()));
+    assert_eq!(rt; disk.bytes(), b"pakket".as_slice());
     Ok(())
 }

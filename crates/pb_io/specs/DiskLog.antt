@@ -1,0 +1,60 @@
+-- A disk in memory as the list of all that was done to it, the newest first.
+use Rattle.std.specs.Prelude.{◌≡◌, ◌⊎◌, ℕ, ◌+◌, ◌^◌, ◌≤◌, Bool, ◌&&◌, nat_le, if◌then◌else◌, List, [], ◌∷◌, ◌++◌, length, take, Some}
+use Rattle.pb_base.specs.World.{World}
+use Rattle.pb_io.specs.Calls.{Calls}
+use Rattle.pb_io.specs.Crash.{overlaid, Torn, Shortened}
+use Rattle.pb_io.specs.Told.{Told}
+
+pub data Change : Type 0 where
+  Wrote : (at : ℕ) (bytes : List ℕ) → Change
+  Cut : (len : ℕ) → Change
+  Synced : Change
+  Linked : (events : World) → Change
+
+-- a write begins within the file and ends at most at 2^62
+abbrev pub fits : List ℕ → ℕ → List ℕ → Bool
+fits f at bytes = nat_le at (length f) && nat_le (at + length bytes) (2 ^ 62)
+
+-- the file as it reads, from what was there at first
+abbrev pub file_of : List ℕ → List Change → List ℕ
+file_of first [] = take (2 ^ 62) first
+file_of first (Wrote at bytes ∷ earlier) =
+    if fits (file_of first earlier) at bytes then overlaid (file_of first earlier) at bytes else file_of first earlier
+file_of first (Cut len ∷ earlier) = take len (file_of first earlier)
+file_of first (change ∷ earlier) = file_of first earlier
+
+-- what a crash may leave: after each write and cut an earlier image after a torn step, after a sync the file
+abbrev pub image_of : List ℕ → List Change → List ℕ → Type 0
+image_of first [] c = c ≡ file_of first []
+image_of first (Wrote at bytes ∷ earlier) c = (length c ≤ 2 ^ 62) × ((d : List ℕ) × image_of first earlier d × Torn at (length bytes) d c)
+image_of first (Cut len ∷ earlier) c = (d : List ℕ) × image_of first earlier d × Shortened len d c
+image_of first (Synced ∷ earlier) c = c ≡ file_of first earlier
+image_of first (Linked events ∷ earlier) c = image_of first earlier c
+
+abbrev pub world_of : List Change → World
+world_of [] = []
+world_of (Linked events ∷ earlier) = world_of earlier ++ events
+world_of (change ∷ earlier) = world_of earlier
+
+-- at a moment from t on, which is a number of changes, the world was this one and a crash could leave this file
+abbrev pub left_of : List ℕ → List Change → ℕ → World → List ℕ → Type 0
+left_of first [] t w c = (t ≤ 0) × (w ≡ []) × image_of first [] c
+left_of first (change ∷ earlier) t w c =
+    ((t ≤ length (change ∷ earlier)) × (w ≡ world_of (change ∷ earlier)) × image_of first (change ∷ earlier) c) ⊎ left_of first earlier t w c
+
+-- what contracts see of a disk in memory
+pub record DiskLog : Type 0 where
+  pub first : List ℕ
+  pub changes : List Change
+  pub calls : Calls
+
+-- what it tells, where these link calls failed and these ticks were quiet
+abbrev pub tells : DiskLog → ℕ → ℕ → Told
+tells disk link_faults quiets = record {
+  file = Some (file_of disk.first disk.changes);
+  image = image_of disk.first disk.changes;
+  faults = disk.calls.faults;
+  link = record { world = Some (world_of disk.changes); faults = link_faults; quiets = quiets };
+  moment = length disk.changes;
+  left = left_of disk.first disk.changes;
+}
