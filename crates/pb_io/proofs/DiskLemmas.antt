@@ -1,12 +1,11 @@
 -- What the calls of a disk in memory do to what it tells.
-use Rattle.std.proofs.Common.{◌≡◌, ◌⊎◌, inl, inr, ⊎_elim, ℕ, ◌+◌, ◌^◌, ◌≤◌, List, [], ◌∷◌, length, take, Some, refl, sym, ◌∙◌, ap, subst, arith}
+use Rattle.std.proofs.Common.{◌≡◌, inl, inr, ⊎_elim, ℕ, ◌+◌, ◌^◌, ◌≤◌, List, [], ◌∷◌, length, Some, refl, sym, ◌∙◌, ap, subst, arith}
 use Rattle.std.proofs.lemmas.Option.{same_Some}
-use Rattle.pb_io.specs.Calls.{Calls}
-use Rattle.pb_io.specs.Crash.{overlaid, Torn, Shortened, Follows, Within, Changes}
+use Rattle.pb_io.specs.Crash.{Torn, Shortened, Follows, Changes}
 use Rattle.pb_io.specs.Disk.{Looks}
 use Rattle.pb_io.specs.DiskLaws.{overlaid-torn, take-shortened, file_wrote, file-image, first_whole}
-use Rattle.pb_io.specs.DiskLog.{Change, Wrote, Cut, Synced, Linked, file_of, image_of, world_of, left_of, DiskLog, tells}
-use Rattle.pb_io.specs.Told.{Told, Elapses}
+use Rattle.pb_io.specs.DiskLog.{Change, Wrote, Cut, Synced, Linked, file_of, image_of, DiskLog, tells}
+use Rattle.pb_io.specs.Told.{Elapses}
 
 -- a value that differs only in what was logged and counted
 logged : (new : DiskLog) (first : List ℕ) (changes : List Change) (P : DiskLog → Type 0) → new.first ≡ first → new.changes ≡ changes → P (record { first = first; changes = changes; calls = new.calls }) → P new

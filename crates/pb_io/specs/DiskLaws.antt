@@ -1,13 +1,13 @@
 -- A disk in memory is lawful, whatever was done to it.
-use Rattle.std.specs.Prelude.{◌≡◌, ◌⊎◌, ℕ, ◌+◌, ◌^◌, ◌<◌, ◌≤◌, ◌&&◌, max, Bool, true, false, nat_le, if◌then◌else◌, List, [], ◌∷◌, ◌++◌, length, take, drop, Some, refl}
-use Rattle.std.proofs.Common.{sym, ◌∙◌, ap, subst, inl, inr, ⊎_elim, arith, append_assoc, length-append, length-drop}
+use Rattle.std.specs.Prelude.{◌≡◌, ℕ, ◌+◌, ◌^◌, ◌≤◌, ◌&&◌, max, Bool, true, false, nat_le, if◌then◌else◌, List, [], ◌∷◌, ◌++◌, length, take, drop, Some, refl}
+use Rattle.std.proofs.Common.{sym, ◌∙◌, ap, subst, inl, inr, arith, append_assoc, length-append, length-drop}
 use Rattle.std.proofs.lemmas.Bool.{leb-true, le-leb, cond-true}
-use Rattle.std.proofs.lemmas.List.{append-nil, length-take, take_at, drop_at, take_all, drop_all}
+use Rattle.std.proofs.lemmas.List.{length-take, take_at, drop_at, take_all}
 use Rattle.std.proofs.lemmas.Option.{same_Some}
 use Rattle.pb_base.specs.World.{World}
 use Rattle.pb_io.specs.Crash.{overlaid, Torn, Shortened}
 use Rattle.pb_io.specs.DiskLog.{Change, Wrote, Cut, Synced, Linked, fits, file_of, image_of, world_of, left_of, DiskLog, tells}
-use Rattle.pb_io.specs.Told.{Told, IsLawful}
+use Rattle.pb_io.specs.Told.{IsLawful}
 
 pub length-overlaid : (f : List ℕ) (at : ℕ) (bytes : List ℕ) → at ≤ length f → length (overlaid f at bytes) ≡ max (length f) (at + length bytes)
 length-overlaid f at bytes le =
