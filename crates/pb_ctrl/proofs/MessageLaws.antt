@@ -4,7 +4,7 @@ use Rattle.std.proofs.lemmas.Bool.{ne_eqb}
 use Rattle.pb_base.specs.declared.message.MessageFault.TheVariants.{UnknownType}
 use Rattle.pb_layout.specs.Layout.{Stop, Values, made}
 use Rattle.pb_layout.proofs.LayoutLaws.{at_type}
-use Rattle.pb_layout.proofs.FaultLaws.{NoStop}
+use Rattle.pb_layout.proofs.FaultLaws.{OnlyMalformed}
 use Rattle.pb_ctrl.specs.Message.{of_type, layout, IsType, keys}
 
 abbrev HasKeys : ℕ → ℕ → Type 0
@@ -25,10 +25,10 @@ keys-made values =
 
 -- ---- the types
 
-pub known : (type tran : ℕ) → IsType type → NoStop (of_type type tran)
+pub known : (type tran : ℕ) → IsType type → OnlyMalformed (of_type type tran)
 known type tran is = elim is [
-  | inl e ↦ subst (λ (k : ℕ). NoStop (of_type k tran)) (sym e) (λ router metric verify. tt)
-  | inr e ↦ subst (λ (k : ℕ). NoStop (of_type k tran)) (sym e) (λ router metric verify. tt)
+  | inl e ↦ subst (λ (k : ℕ). OnlyMalformed (of_type k tran)) (sym e) (λ router metric verify. tt)
+  | inr e ↦ subst (λ (k : ℕ). OnlyMalformed (of_type k tran)) (sym e) (λ router metric verify. tt)
 ]
 
 pub unknown : (type tran : ℕ) → (IsType type → ⊥) → of_type type tran ≡ Stop (UnknownType type)

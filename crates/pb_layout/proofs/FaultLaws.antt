@@ -64,16 +64,16 @@ key-malformed (AtMost most) u = tt
 key-malformed Numbers u = numbers_malformed u.rest u.at
 key-malformed Settings u = then_malformed (settings_at (length u.rest) u) _ (settings_malformed (length u.rest) u) (λ end. tt)
 
--- a layout that has no fault of its own
-abbrev pub NoStop : {X : Type 0} → MessageLayout X → Type 0
-NoStop (Done x) = Unit {0}
-NoStop (Stop fault) = ⊥
-NoStop (Key k next) = (v : Value k) → NoStop (next v)
+-- A layout that has no fault of its own but malformed values, as behind a value that its key refuses.
+abbrev pub OnlyMalformed : {X : Type 0} → MessageLayout X → Type 0
+OnlyMalformed (Done x) = Unit {0}
+OnlyMalformed (Stop fault) = IsMalformed fault
+OnlyMalformed (Key k next) = (v : Value k) → OnlyMalformed (next v)
 
-pub reading-malformed : {X : Type 0} (l : MessageLayout X) (u : Unread) → NoStop l → IfErr (reading l u) IsMalformed
+pub reading-malformed : {X : Type 0} (l : MessageLayout X) (u : Unread) → OnlyMalformed l → IfErr (reading l u) IsMalformed
 unfolding reading
 reading-malformed (Done x) u none = tt
-reading-malformed (Stop fault) u none = absurd none
+reading-malformed (Stop fault) u none = none
 reading-malformed (Key k next) u none =
     then_malformed (key_at k u) (λ v. reading (next v.0) v.1) (key-malformed k u) (λ v. reading-malformed (next v.0) v.1 (none v.0))
 
@@ -111,7 +111,7 @@ unfolding reading
 stopped u fault = refl
 
 -- The type is unknown exactly where there are two bytes and the first is no type.
-pub reading-unknown : {X : Type 0} (of_type : ℕ → ℕ → MessageLayout X) (IsType : ℕ → Type 0) → ((type tran : ℕ) → IsType type → NoStop (of_type type tran))
+pub reading-unknown : {X : Type 0} (of_type : ℕ → ℕ → MessageLayout X) (IsType : ℕ → Type 0) → ((type tran : ℕ) → IsType type → OnlyMalformed (of_type type tran))
     → ((type tran : ℕ) → (IsType type → ⊥) → of_type type tran ≡ Stop (UnknownType type)) → (bytes : List ℕ) (n : ℕ) → IsBytes bytes
     → (reading (typed of_type) (whole bytes) ≡ Err (UnknownType n)) ↔ ((2 ≤ length bytes) × (get_or bytes 0 0 ≡ n) × (IsType n → ⊥))
 reading-unknown of_type IsType known unknown [] n fits =
@@ -142,7 +142,7 @@ pub short_by : {X Y : Type 0} (of_type : ℕ → ℕ → MessageLayout X) (view 
     → Gives view r (reading (typed of_type) (whole bytes)) → length bytes < 2 → r ≡ Err (Malformed (length bytes))
 short_by of_type view bytes r given short = (refused view r _ (Malformed (length bytes)) given).1 (reading-short of_type bytes short)
 
-pub unknown_by : {X Y : Type 0} (of_type : ℕ → ℕ → MessageLayout X) (IsType : ℕ → Type 0) → ((type tran : ℕ) → IsType type → NoStop (of_type type tran))
+pub unknown_by : {X Y : Type 0} (of_type : ℕ → ℕ → MessageLayout X) (IsType : ℕ → Type 0) → ((type tran : ℕ) → IsType type → OnlyMalformed (of_type type tran))
     → ((type tran : ℕ) → (IsType type → ⊥) → of_type type tran ≡ Stop (UnknownType type))
     → (view : Y → X) (bytes : List ℕ) (r : Result Y MessageFault) → IsBytes bytes → Gives view r (reading (typed of_type) (whole bytes))
     → (n : ℕ) → (r ≡ Err (UnknownType n)) ↔ ((2 ≤ length bytes) × (get_or bytes 0 0 ≡ n) × (IsType n → ⊥))
