@@ -1,6 +1,10 @@
+mod ExchangeLemmas
 mod HexLemmas
+mod JudgeLemmas
 mod LineLemmas
+mod PingLemmas
 mod PrintLemmas
+mod RequestLemmas
 mod StreamLemmas
 mod TakesLemmas
 mod WordLemmas

@@ -1,5 +1,8 @@
+pub mod Exchange
 pub mod Hex
+pub mod Judging
 pub mod PacketText
+pub mod Ping
 pub mod Ran
 pub mod ShowText
 pub mod Showing

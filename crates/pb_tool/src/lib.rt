@@ -3,8 +3,12 @@
 
 mod closing;
 mod commands;
+mod exchange;
+mod greeting;
 mod lines;
 mod page;
+mod reply;
+mod request;
 mod show;
 mod status;
 mod words;
