@@ -60,18 +60,13 @@ fn reads_the_forms_of_a_peer(rt: HostRuntime) {
         assert_eq!(rt; host_and_port(word), Some((host, port)), "{word}");
     }
     for word in [
-        "",
         "-",
         "logger",
         ":6785",
         "logger:",
-        "logger:0",
         "logger:06785",
         "logger:+1",
-        "logger: 1",
-        "logger:1x",
         "logger:65536",
-        "logger:6785:",
         "listen:6785",
     ] {
         assert_eq!(rt; host_and_port(word), None, "{word}");
