@@ -77,7 +77,8 @@ impl<'a, N: Net> HostLink<'a, N> {
     }
 }
 
-// Which of the two a read that waited too long gives is the system's choice.
+// Which of the two a read that waited too long gives is the system's choice. A connection that the system gave up
+// may be told as the second; the next read then finds its end.
 fn is_timeout(kind: ErrorKind) -> bool {
     matches!(kind, ErrorKind::WouldBlock | ErrorKind::TimedOut)
 }
@@ -88,14 +89,12 @@ fn connected<N: Net>(net: &N, peer: &str) -> io::Result<N::Stream> {
     let invalid = io::Error::from(ErrorKind::InvalidInput);
     let addresses = host_and_port(peer).ok_or(invalid)?.to_socket_addrs(net)?;
     let share = Duration::from_millis(CONNECT_MILLIS / (addresses.len() as u64).max(1));
-    let mut last = io::Error::from(ErrorKind::AddrNotAvailable);
     for address in addresses {
-        match TcpStream::connect_timeout(net, &address, share) {
-            Ok(stream) => return prepared(stream),
-            Err(error) => last = error,
+        if let Ok(stream) = TcpStream::connect_timeout(net, &address, share) {
+            return prepared(stream);
         }
     }
-    Err(last)
+    Err(io::Error::from(ErrorKind::NotConnected))
 }
 
 // Where a standard stream was closed, a new stream gets its number, and what is printed would go to the peer: such a
