@@ -1,26 +1,34 @@
 ghost use Rattle.pb_io.specs.Told.{silent, silent_is_lawful};
 
-use crate::fault_count::refused;
+use crate::fault_count::{counted, refused};
+use crate::host_link::HostLink;
 use pb_io::{Disk, Failed, Site};
+use std::net::Net;
 
-/// The archive's file and the stream to the stations. It isn't built yet: each of its calls fails.
+/// The archive's file and the stream to the stations, of which nothing is known. The file isn't built yet: each disk
+/// call fails.
 #[derive(Drop)]
-pub struct HostSite {
+pub struct HostSite<'a, N: Net> {
+    link: HostLink<'a, N>,
     disk_faults: u64,
     link_faults: u64,
+    quiets: u64,
 }
 
-impl HostSite {
-    pub fn new() -> Self {
+impl<'a, N: Net> HostSite<'a, N> {
+    /// The peer is `HOST:PORT`; with another word each link call fails.
+    pub fn new(net: &'a N, peer: &'a str) -> Self {
         HostSite {
+            link: HostLink::new(net, peer),
             disk_faults: 0,
             link_faults: 0,
+            quiets: 0,
         }
     }
 }
 
-impl Disk for HostSite {
-    ghost told = { λ s. silent s.disk_faults s.link_faults 0 };
+impl<'a, N: Net> Disk for HostSite<'a, N> {
+    ghost told = { λ s. silent s.disk_faults s.link_faults s.quiets };
 
     fn len(&mut self) -> Result<u64, Failed> {
         Err(refused(&mut self.disk_faults))
@@ -42,15 +50,22 @@ impl Disk for HostSite {
         Err(refused(&mut self.disk_faults))
     }
 
-    ghost lawful = { λ s. silent_is_lawful s.disk_faults s.link_faults 0 };
+    ghost lawful = { λ s. silent_is_lawful s.disk_faults s.link_faults s.quiets };
 }
 
-impl Site for HostSite {
-    fn send(&mut self, _frame: &[u8]) -> Result<(), Failed> {
-        Err(refused(&mut self.link_faults))
+impl<'a, N: Net> Site for HostSite<'a, N> {
+    fn send(&mut self, frame: &[u8]) -> Result<(), Failed> {
+        counted(&mut self.link_faults, self.link.send(frame))
     }
 
-    fn recv(&mut self, _to: &mut [u8]) -> Result<usize, Failed> {
-        Err(refused(&mut self.link_faults))
+    fn recv(&mut self, to: &mut [u8]) -> Result<usize, Failed> {
+        let count = counted(&mut self.link_faults, self.link.recv(to))?;
+        if count == 0 {
+            self.quiets = self.quiets.saturating_add(1);
+        }
+        Ok(count)
     }
 }
+
+#[cfg(test)]
+mod tests;

@@ -27,8 +27,8 @@ impl<R: Read> Source for HostSource<R> {
     }
 }
 
-// A read that a signal interrupts is made again.
-fn read_on<R: Read>(reader: &mut R, to: &mut [u8]) -> io::Result<usize>
+/// A read that a signal interrupts is made again.
+pub fn read_on<R: Read>(reader: &mut R, to: &mut [u8]) -> io::Result<usize>
     ensures { IfOk result (λ n. n ≤ length to.old) }
 {
     for _ in 0..u64::MAX {

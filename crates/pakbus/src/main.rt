@@ -2,9 +2,11 @@
 #![tactic(auto)]
 
 mod fault_count;
+mod host_link;
 mod host_sink;
 mod host_site;
 mod host_source;
+mod peer;
 
 use crate::host_sink::HostSink;
 use crate::host_site::HostSite;
@@ -21,7 +23,9 @@ fn main(rt: HostRuntime) -> ExitCode {
         Err(error) if error.kind() == ErrorKind::InvalidData => Vec::new(rt.alloc()),
         Err(_) => return ExitCode::from(pb_tool::Status::Memory.code()),
     };
-    let mut site = HostSite::new();
+    // Without a second word there is no peer.
+    let peer = words.get(1).map_or("", |word| word.as_str());
+    let mut site = HostSite::new(&rt, peer);
     let mut input = HostSource::new(rt.stdin());
     let mut out = HostSink::new(rt.stdout());
     let status = pb_tool::run(rt.alloc(), &words, &mut site, &mut input, &mut out);

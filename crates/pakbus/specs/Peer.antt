@@ -1,0 +1,17 @@
+-- The word that names a peer.
+use Rattle.std.specs.Prelude.{◌≡◌, ◌≢◌, ℕ, ◌<◌, List, ◌∷◌, ◌++◌, length, slice_index, codes}
+use Rattle.std.specs.Str.Parse.{IsNumeral, digits_value}
+
+-- the digits write this port, in decimal and without a leading zero
+pub record IsPort (digits : List ℕ) (port : ℕ) : Type 0 where
+  pub decimal : IsNumeral 10 digits
+  pub no_zero : slice_index digits 0 ≢ 48
+  pub value : digits_value 10 digits ≡ port
+
+-- the word is `HOST:PORT`, and the host isn't empty and isn't `listen`
+pub record IsPeer (word host : List ℕ) (port : ℕ) : Type 0 where
+  pub digits : List ℕ
+  pub form : word ≡ host ++ (58 ∷ digits)
+  pub tells : IsPort digits port
+  pub some_host : 0 < length host
+  pub not_listen : host ≢ codes "listen"
