@@ -3,4 +3,5 @@ mod LineLemmas
 mod PrintLemmas
 mod StreamLemmas
 mod TakesLemmas
+mod TimeLemmas
 mod WordLemmas

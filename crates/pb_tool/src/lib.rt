@@ -7,6 +7,7 @@ mod lines;
 mod page;
 mod show;
 mod status;
+mod time_text;
 mod words;
 
 pub use commands::run;
