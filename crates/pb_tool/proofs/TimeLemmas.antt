@@ -1,15 +1,14 @@
 -- The dates of days, and the digits of numbers.
-use Rattle.std.proofs.Common.{◌≡◌, ℕ, zero, suc, ◌+◌, ◌-◌, ◌/◌, ◌%◌, ◌<◌, ◌≤◌, nat_lt, List, [], ◌∷◌, ◌++◌, length, drop, refl, sym, ap, ◌∙◌, arith, rules, ℤ, pos, neg_ℤ, ◌+ℤ◌, ◌-ℤ◌, unsigned_abs, codes, Option, Some, FitsSigned, w32, w64, to_z, of_z, ◌⊎◌, inl, inr, length-append, append_assoc}
+use Rattle.std.proofs.Common.{◌≡◌, ℕ, zero, suc, ◌+◌, ◌-◌, ◌/◌, ◌%◌, ◌<◌, ◌≤◌, List, [], ◌∷◌, ◌++◌, length, drop, refl, sym, ap, arith, rules, ℤ, pos, ◌+ℤ◌, ◌-ℤ◌, unsigned_abs, codes, Some, FitsSigned, w32, w64, to_z, of_z, inl, inr, length-append, append_assoc}
 use Rattle.std.proofs.Math.ListN.{set}
 use Rattle.std.proofs.lemmas.Bool.{cases_order}
 use Rattle.std.proofs.lemmas.Int.{to_z-of_z}
 use Rattle.std.proofs.lemmas.List.{drop-set}
 use Rattle.pb_base.specs.declared.nsec.Nsec.{Nsec}
-use Rattle.jiff_core.specs.Calendar.{day_count, days_of_months, day_of_year as day_of_jiff_year, days_from_civil, days_in_month, days_in_year, IsYear, IsCivilDate}
+use Rattle.jiff_core.specs.Calendar.{day_count, days_of_months, days_from_civil, days_in_month, days_in_year, IsCivilDate}
 use Rattle.jiff_core.proofs.SignedLemmas.{signed_arith}
 use Rattle.jiff_core.proofs.MarchLemmas.{day_count-early}
 use Rattle.jiff_core.proofs.CalendarLemmas.{days_from_civil-day_count, day_count-next_year, day_count-year_is, day_count-day_of_year, days_of_months-zero, days_of_months_more, days_of_months_mono}
-use borrow.Author.Differences.{up, down}
 use Rattle.pb_tool.specs.TimeText.{year_length, month_length, year_start, month_start, last_begun, year_of, day_of_year, month_of, day_of_month, digits, month_text, date_text, second_text, fraction_text, since_1900, part_of, time_text}
 
 -- ---- the last that had begun
