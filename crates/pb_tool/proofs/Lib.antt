@@ -7,4 +7,5 @@ mod PrintLemmas
 mod RequestLemmas
 mod StreamLemmas
 mod TakesLemmas
+mod TimeLemmas
 mod WordLemmas

@@ -7,4 +7,5 @@ pub mod Ran
 pub mod ShowText
 pub mod Showing
 pub mod Status
+pub mod TimeText
 pub mod Words
