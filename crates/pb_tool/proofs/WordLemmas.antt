@@ -72,6 +72,10 @@ IsPing-one a b c d words p q =
       Peer-one b d first.node_peer (omega (arith, second.node_peer.1)) (sym first.node_text ∙ second.node_text),
     )
 
+-- no words are both
+pub IsShow-not_ping : (me node : ℕ) (words : List (List ℕ)) → IsShow words → ¬ IsPing me node words
+IsShow-not_ping me node words show ping = absurd (omega (arith, (IsShow-parts words show).0, (IsPing-parts me node words ping).0))
+
 pub IsPing-words : {X : Type 0} (f : X → List ℕ) (words : List X) (name first second : X) (me node : ℕ) → 5 ≤ length words → length words < 6
     → name ≡ get_or words 2 name → first ≡ get_or words 3 first → second ≡ get_or words 4 second → f name ≡ codes "ping" → ArePeers me node (f first) (f second)
     → IsPing me node (map f words)
