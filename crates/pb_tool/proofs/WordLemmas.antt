@@ -1,7 +1,6 @@
 -- The words of a command as lists of bytes.
-use Rattle.std.proofs.Common.{◌≡◌, ◌≢◌, ℕ, ◌<◌, ◌≤◌, List, [], ◌∷◌, map, length, get_or, Option, Some, None, Result, Ok, SomeIff, MatchOption, inl, inr, refl, sym, ap, subst, ◌∙◌, arith, codes, decimal, Bool, true, false, not}
+use Rattle.std.proofs.Common.{◌≡◌, ◌≢◌, ℕ, ◌<◌, ◌≤◌, List, [], ◌∷◌, map, length, get_or, Option, Some, None, Result, Ok, SomeIff, MatchOption, inl, inr, refl, sym, ap, subst, ◌∙◌, arith, codes, decimal}
 use Rattle.std.specs.Str.Parse.{ParsesUnsigned}
-use Rattle.std.proofs.lemmas.Bool.{false≢true}
 use Rattle.std.proofs.lemmas.List.{length-map, get_or-map}
 use Rattle.std.proofs.lemmas.Fmt.{decimal_injective, parse-decimal}
 use Rattle.pb_tool.specs.Words.{IsShow, IsPeer, ArePeers, IsPing, IsListed}
@@ -22,17 +21,11 @@ IsShow-words f words name least below is named =
 
 -- ---- addresses
 
+-- a decimal text is read as its number
 pub Peer-parsed : {E : Type 0} (n : ℕ) (word : List ℕ) (r : Result ℕ E) → IsPeer n → word ≡ decimal n → ParsesUnsigned 16 10 word r → r ≡ Ok n
 Peer-parsed n word r peer text parses = parse-decimal 16 n word r (omega (arith, peer.1)) (omega (arith, peer.1)) text parses
 
-pub not_false : (b : Bool) → false ≡ not b → b ≡ true
-not_false true e = refl
-not_false false e = e
-
-pub not_true : (b : Bool) → true ≡ not b → b ≢ true
-not_true true e = λ t. false≢true (sym e)
-not_true false e = false≢true
-
+-- an address has one decimal text
 pub Peer-one : (m n : ℕ) → IsPeer m → n < 65536 → decimal m ≡ decimal n → m ≡ n
 Peer-one m n peer within same = decimal_injective m n (omega (arith, peer.1)) (omega arith) same
 
@@ -43,22 +36,6 @@ Peer-node (Some m) n word h most text = ((omega (arith, h), omega (arith, h)), s
 Peer-node None n word h most text = λ p. h (omega (arith, p.1, Peer-one p.0 n p.1 (omega arith) (sym p.2 ∙ sym text)), omega arith)
 
 -- ---- ping
-
--- the addresses are those that the two words say
-pub ArePeers-one : (a b c d : ℕ) (first second : List ℕ) → ArePeers a b first second → ArePeers c d first second → (a ≡ c) × (b ≡ d)
-ArePeers-one a b c d first second p q = (
-  decimal_injective a c (omega (arith, p.me_peer.1)) (omega (arith, q.me_peer.1)) (sym p.me_text ∙ q.me_text),
-  decimal_injective b d (omega (arith, p.node_peer.1)) (omega (arith, q.node_peer.1)) (sym p.node_text ∙ q.node_text),
-)
-
-pub IsPing-one : (a b c d : ℕ) (words : List (List ℕ)) → IsPing a b words → IsPing c d words → (a ≡ c) × (b ≡ d)
-IsPing-one a b c d (file ∷ peer ∷ name ∷ first ∷ second ∷ []) p q = ArePeers-one a b c d first second p.1 q.1
-IsPing-one a b c d (file ∷ peer ∷ name ∷ first ∷ second ∷ third ∷ rest) p q = absurd p
-IsPing-one a b c d (file ∷ peer ∷ name ∷ first ∷ []) p q = absurd p
-IsPing-one a b c d (file ∷ peer ∷ name ∷ []) p q = absurd p
-IsPing-one a b c d (file ∷ peer ∷ []) p q = absurd p
-IsPing-one a b c d (file ∷ []) p q = absurd p
-IsPing-one a b c d [] p q = absurd p
 
 fifth_is : (me node : ℕ) (words : List (List ℕ)) → length words ≡ 5 → get_or words 2 [] ≡ codes "ping" → ArePeers me node (get_or words 3 []) (get_or words 4 []) → IsPing me node words
 fifth_is me node (file ∷ peer ∷ name ∷ first ∷ second ∷ []) size is are = (is, are)
@@ -85,6 +62,19 @@ IsShow-parts (file ∷ peer ∷ name ∷ first ∷ rest) p = absurd p
 IsShow-parts (file ∷ peer ∷ []) p = absurd p
 IsShow-parts (file ∷ []) p = absurd p
 IsShow-parts [] p = absurd p
+
+-- the words fix the two addresses
+pub IsPing-one : (a b c d : ℕ) (words : List (List ℕ)) → IsPing a b words → IsPing c d words → (a ≡ c) × (b ≡ d)
+IsPing-one a b c d words p q =
+    let first = (IsPing-parts a b words p).2 in
+    let second = (IsPing-parts c d words q).2 in (
+      Peer-one a c first.me_peer (omega (arith, second.me_peer.1)) (sym first.me_text ∙ second.me_text),
+      Peer-one b d first.node_peer (omega (arith, second.node_peer.1)) (sym first.node_text ∙ second.node_text),
+    )
+
+-- no words are both
+pub IsShow-not_ping : (me node : ℕ) (words : List (List ℕ)) → IsShow words → ¬ IsPing me node words
+IsShow-not_ping me node words show ping = absurd (omega (arith, (IsShow-parts words show).0, (IsPing-parts me node words ping).0))
 
 pub IsPing-words : {X : Type 0} (f : X → List ℕ) (words : List X) (name first second : X) (me node : ℕ) → 5 ≤ length words → length words < 6
     → name ≡ get_or words 2 name → first ≡ get_or words 3 first → second ≡ get_or words 4 second → f name ≡ codes "ping" → ArePeers me node (f first) (f second)
