@@ -1,11 +1,11 @@
 -- How what is heard behind a request makes up its outcome.
-use Rattle.std.proofs.Common.{◌≡◌, ◌⊎◌, ℕ, zero, suc, ◌+◌, ◌-◌, ◌<◌, ◌≤◌, List, [], ◌∷◌, ◌++◌, Option, Some, None, Result, Ok, Err, IfOk, OnErr, length, take, drop, cond, eqb, refl, sym, ap, subst, ◌∙◌, append_assoc, length-append, inl, inr, arith}
-use Rattle.std.proofs.lemmas.List.{append-nil, length-take, length-take-le}
+use Rattle.std.proofs.Common.{◌≡◌, ◌⊎◌, ℕ, zero, suc, ◌+◌, ◌-◌, ◌<◌, ◌≤◌, List, [], ◌∷◌, ◌++◌, Option, Some, None, length, take, drop, cond, eqb, refl, sym, ap, subst, ◌∙◌, append_assoc, length-append, inl, inr, arith}
+use Rattle.std.proofs.lemmas.List.{append-nil, length-take}
 use Rattle.std.proofs.lemmas.Bool.{cond-false, ne_eqb}
 use Rattle.std.proofs.lemmas.Grind.{flat_map-append}
 use Rattle.std.specs.List.{flat_map}
-use Rattle.pb_base.specs.World.{World, Event, Sent, Heard, Quiet, all_heard, sent}
-use Rattle.pb_io.specs.Site.{GrowsBy, Receives, Sends}
+use Rattle.pb_base.specs.World.{World, Sent, Quiet, all_heard, sent}
+use Rattle.pb_io.specs.Site.{GrowsBy}
 use Rattle.pb_io.proofs.WorldLemmas.{GrowsBy-nil, GrowsBy-trans, sent-heard}
 use Rattle.pb_frame.specs.Framing.{Verdict}
 use Rattle.pb_frame.specs.Hearing.{Hearing, Follows}
@@ -16,7 +16,6 @@ use Rattle.pb_tool.specs.declared.exchange.Exchange.{Exchange}
 use Rattle.pb_tool.specs.declared.exchange.Asked.{Asked}
 use Rattle.pb_tool.specs.declared.exchange.Asked.TheVariants as asked
 use Rattle.pb_tool.specs.Ping.{NoneFits, bytes_in, ticks_in, bytes_heard, quiet_ticks, request_frame}
-use Rattle.pb_tool.specs.Judging.{EndsWith}
 use Rattle.pb_tool.specs.Exchange.{left, Judges, Outcome, Listens, Asks, Stops}
 use Rattle.pb_tool.proofs.JudgeLemmas.{NoneFits-append, EndsWith-after}
 
@@ -74,12 +73,12 @@ pub record Arrives (n : ℕ) (bytes : List ℕ) (old new : Option World) : Type 
 pub arrives : (n : ℕ) (given : List ℕ) (old new : Option World) → (0 < n → GrowsBy old new (all_heard (take n given))) × (n ≡ 0 → GrowsBy old new (Quiet ∷ [])) → Arrives n (take n given) old new
 arrives zero given old new h = record { events = Quiet ∷ []; grows = h.1 refl; none_sent = refl; heard = bytes_heard-quiet; quiets = quiet_ticks-quiet }
 arrives (suc n) given old new h = record {
-    events = all_heard (take (suc n) given);
-    grows = h.0 (omega arith);
-    none_sent = sent-heard (take (suc n) given);
-    heard = bytes_heard-heard (take (suc n) given);
-    quiets = quiet_ticks-heard (take (suc n) given) ∙ sym (cond-false (eqb (suc n) 0) 1 0 (ne_eqb (suc n) 0 (λ e. omega arith)));
-  }
+  events = all_heard (take (suc n) given);
+  grows = h.0 (omega arith);
+  none_sent = sent-heard (take (suc n) given);
+  heard = bytes_heard-heard (take (suc n) given);
+  quiets = quiet_ticks-heard (take (suc n) given) ∙ sym (cond-false (eqb (suc n) 0) 1 0 (ne_eqb (suc n) 0 (λ e. omega arith)));
+}
 
 -- ---- listening
 
@@ -98,17 +97,17 @@ pub record Listening (request : Request) (me node : ℕ) (old now : Exchange) (w
 
 pub Listening-start : (request : Request) (me node : ℕ) (old : Exchange) (w : Option World) → left old ≡ [] → Listening request me node old old w w 0 0
 Listening-start request me node old w nothing = record {
-    events = [];
-    grows = GrowsBy-nil w;
-    none_sent = refl;
-    shown = [];
-    follows = subst (λ l. Follows old.unframer l [] old.unframer) (sym bytes_heard-nil) (Follows-nil old.unframer);
-    none = tt;
-    nothing_left = nothing;
-    quiets_are = sym quiet_ticks-nil;
-    heard_are = sym (ap length bytes_heard-nil);
-    count = omega arith;
-  }
+  events = [];
+  grows = GrowsBy-nil w;
+  none_sent = refl;
+  shown = [];
+  follows = subst (λ l. Follows old.unframer l [] old.unframer) (sym bytes_heard-nil) (Follows-nil old.unframer);
+  none = tt;
+  nothing_left = nothing;
+  quiets_are = sym quiet_ticks-nil;
+  heard_are = sym (ap length bytes_heard-nil);
+  count = omega arith;
+}
 
 -- nothing is left, so all was pushed
 all_pushed : (bytes pushed rest : List ℕ) → bytes ≡ pushed ++ rest → rest ≡ [] → pushed ≡ bytes
@@ -120,7 +119,7 @@ pub Listening-more : (request : Request) (me node : ℕ) (old mid now new : Exch
 Listening-more request me node old mid now new w x y quiets heard n bytes l a size same at_hand j =
     let pushed = all_pushed bytes j.pushed (left new) (sym at_hand ∙ j.split) j.outcome.0 in
     let more : Follows mid.unframer bytes j.shown new.unframer =
-      subst (λ p. Follows mid.unframer p j.shown new.unframer) pushed (subst (λ (h : Hearing). Follows h j.pushed j.shown new.unframer) same j.follows) in
+    subst (λ p. Follows mid.unframer p j.shown new.unframer) pushed (subst (λ (h : Hearing). Follows h j.pushed j.shown new.unframer) same j.follows) in
     let all = bytes_heard-append l.events a.events ∙ ap (λ b. bytes_heard l.events ++ b) a.heard in
     record {
       events = l.events ++ a.events;
@@ -128,7 +127,7 @@ Listening-more request me node old mid now new w x y quiets heard n bytes l a si
       none_sent = sent-append l.events a.events ∙ ap (λ s. s ++ sent a.events) l.none_sent ∙ a.none_sent;
       shown = l.shown ++ j.shown;
       follows = subst (λ b. Follows old.unframer b (l.shown ++ j.shown) new.unframer) (sym all)
-        (Follows-trans old.unframer mid.unframer new.unframer (bytes_heard l.events) bytes l.shown j.shown l.follows more);
+          (Follows-trans old.unframer mid.unframer new.unframer (bytes_heard l.events) bytes l.shown j.shown l.follows more);
       none = NoneFits-append request me node l.shown j.shown l.none j.outcome.1;
       nothing_left = j.outcome.0;
       quiets_are = ap (λ q. q + cond (eqb n 0) 1 0) l.quiets_are ∙ ap (λ q. quiet_ticks l.events + q) (sym a.quiets) ∙ sym (quiet_ticks-append l.events a.events);
@@ -161,24 +160,24 @@ pub Listens-limit : (request : Request) (me node : ℕ) (old new : Exchange) (w 
     → left old ≡ [] → heard ≤ 70000 → (l : Listening request me node old new w x quiets heard) → Outcome request me node new l.events l.shown outcome
     → Listens request me node old w outcome new x
 Listens-limit request me node old new w x quiets heard outcome nothing few l ended = record {
-    heard = l.events;
-    grows = l.grows;
-    none_sent = l.none_sent;
-    pushed = bytes_heard l.events;
-    shown = l.shown;
-    follows = l.follows;
-    split = ap (λ p. p ++ bytes_heard l.events) nothing ∙ sym (append-nil (bytes_heard l.events)) ∙ ap (λ p. bytes_heard l.events ++ p) (sym l.nothing_left);
-    count = omega (arith, l.count, few);
-    ended = ended;
-  }
+  heard = l.events;
+  grows = l.grows;
+  none_sent = l.none_sent;
+  pushed = bytes_heard l.events;
+  shown = l.shown;
+  follows = l.follows;
+  split = ap (λ p. p ++ bytes_heard l.events) nothing ∙ sym (append-nil (bytes_heard l.events)) ∙ ap (λ p. bytes_heard l.events ++ p) (sym l.nothing_left);
+  count = omega (arith, l.count, few);
+  ended = ended;
+}
 
 pub Stops-listening : (w x y : Option World) (events : World) → GrowsBy w x events → sent events ≡ [] → GrowsBy x y [] → Stops [] w y
 Stops-listening w x y events f none g = record {
-    events = events ++ [];
-    grows = GrowsBy-trans w x y events [] f g;
-    rest = [];
-    frames_sent = append-nil (sent (events ++ [])) ∙ sent-append events [] ∙ append-nil (sent events) ∙ none;
-  }
+  events = events ++ [];
+  grows = GrowsBy-trans w x y events [] f g;
+  rest = [];
+  frames_sent = append-nil (sent (events ++ [])) ∙ sent-append events [] ∙ append-nil (sent events) ∙ none;
+}
 
 -- what was judged is what the call answered
 pub judges_as : {request : Request} {me node : ℕ} {old new : Exchange} {r s : Option Reply} → r ≡ s → Judges request me node old r new → Judges request me node old s new
@@ -193,16 +192,16 @@ from_start n chunk = ap (λ k. take k chunk) (omega arith)
 pub Asks-at_once : (request : Request) (me node : ℕ) (old new : Exchange) (w x : Option World) (answer : Reply) → GrowsBy w x (Sent (request_frame request me node) ∷ [])
     → length (left old) ≤ 4096 → Judges request me node old (Some answer) new → Asks request me node old w (asked.Reply answer) new x
 Asks-at_once request me node old new w x answer grows few j = record {
-    heard = [];
-    grows = grows;
-    none_sent = refl;
-    pushed = j.pushed;
-    shown = j.shown;
-    follows = j.follows;
-    split = ap (λ b. left old ++ b) bytes_heard-nil ∙ append-nil (left old) ∙ j.split;
-    count = omega (arith, j.count, few, ap length j.split, length-append j.pushed (left new));
-    ended = j.outcome;
-  }
+  heard = [];
+  grows = grows;
+  none_sent = refl;
+  pushed = j.pushed;
+  shown = j.shown;
+  follows = j.follows;
+  split = ap (λ b. left old ++ b) bytes_heard-nil ∙ append-nil (left old) ∙ j.split;
+  count = omega (arith, j.count, few, ap length j.split, length-append j.pushed (left new));
+  ended = j.outcome;
+}
 
 -- no reply stood in what was at hand, so nothing is left of it
 pub none_at_hand : (request : Request) (me node : ℕ) (old new : Exchange) → Judges request me node old None new → left new ≡ []
@@ -217,17 +216,17 @@ Outcome-after request me node new heard vs ws asked.Flooded none o = (NoneFits-a
 pub Asks-listening : (request : Request) (me node : ℕ) (old mid new : Exchange) (w x y : Option World) (a : Asked) → GrowsBy w x (Sent (request_frame request me node) ∷ [])
     → length (left old) ≤ 4096 → Judges request me node old None mid → Listens request me node mid x a new y → Asks request me node old w a new y
 Asks-listening request me node old mid new w x y a grows few j l = record {
-    heard = l.heard;
-    grows = GrowsBy-trans w x y (Sent (request_frame request me node) ∷ []) l.heard grows l.grows;
-    none_sent = l.none_sent;
-    pushed = j.pushed ++ l.pushed;
-    shown = j.shown ++ l.shown;
-    follows = Follows-trans old.unframer mid.unframer new.unframer j.pushed l.pushed j.shown l.shown j.follows l.follows;
-    split = ap (λ b. b ++ bytes_heard l.heard) j.split ∙ append_assoc j.pushed (left mid) (bytes_heard l.heard) ∙ ap (λ b. j.pushed ++ b) l.split
+  heard = l.heard;
+  grows = GrowsBy-trans w x y (Sent (request_frame request me node) ∷ []) l.heard grows l.grows;
+  none_sent = l.none_sent;
+  pushed = j.pushed ++ l.pushed;
+  shown = j.shown ++ l.shown;
+  follows = Follows-trans old.unframer mid.unframer new.unframer j.pushed l.pushed j.shown l.shown j.follows l.follows;
+  split = ap (λ b. b ++ bytes_heard l.heard) j.split ∙ append_assoc j.pushed (left mid) (bytes_heard l.heard) ∙ ap (λ b. j.pushed ++ b) l.split
       ∙ sym (append_assoc j.pushed l.pushed (left new));
-    count = omega (arith, j.count, few, ap length j.split, length-append j.pushed (left mid), l.count);
-    ended = Outcome-after request me node new l.heard j.shown l.shown a j.outcome.1 l.ended;
-  }
+  count = omega (arith, j.count, few, ap length j.split, length-append j.pushed (left mid), l.count);
+  ended = Outcome-after request me node new l.heard j.shown l.shown a j.outcome.1 l.ended;
+}
 
 -- the bytes at hand are at most a chunk
 pub few_at_hand : (e : Exchange) → length (left e) ≤ 4096
@@ -245,8 +244,8 @@ Stops-sending frame w x (inr g) = record { events = []; grows = g; rest = frame 
 -- the listening failed behind it
 pub Stops-asking : (frame : List ℕ) (w x y : Option World) → GrowsBy w x (Sent frame ∷ []) → Stops [] x y → Stops (frame ∷ []) w y
 Stops-asking frame w x y g s = record {
-    events = Sent frame ∷ s.events;
-    grows = GrowsBy-trans w x y (Sent frame ∷ []) s.events g s.grows;
-    rest = s.rest;
-    frames_sent = ap (λ l. frame ∷ l) s.frames_sent;
-  }
+  events = Sent frame ∷ s.events;
+  grows = GrowsBy-trans w x y (Sent frame ∷ []) s.events g s.grows;
+  rest = s.rest;
+  frames_sent = ap (λ l. frame ∷ l) s.frames_sent;
+}

@@ -1,14 +1,13 @@
 -- What a run of bytes shows of a reply, a byte at a time.
 use Rattle.std.proofs.Common.{◌≡◌, ℕ, suc, ◌+◌, ◌-◌, ◌<◌, ◌≤◌, List, [], ◌∷◌, ◌++◌, Option, Some, None, length, take, drop, get_or, MatchOption, length-append, refl, sym, ap, subst, ◌∙◌, append_assoc, arith}
 use Rattle.std.proofs.lemmas.List.{drop_more}
-use Rattle.pb_frame.specs.declared.heard.Heard.{Heard}
 use Rattle.pb_frame.specs.declared.heard.Heard.TheVariants.{Body}
 use Rattle.pb_frame.specs.Framing.{Verdict, Whole}
 use Rattle.pb_frame.specs.Hearing.{Hearing, Follows, shown}
 use Rattle.pb_frame.proofs.FollowsLemmas.{Follows-trans, Follows-nil}
 use Rattle.pb_tool.specs.declared.greeting.Request.{Request}
 use Rattle.pb_tool.specs.declared.greeting.Reply.{Reply}
-use Rattle.pb_tool.specs.Ping.{IsReply, Fits, NoneFits}
+use Rattle.pb_tool.specs.Ping.{IsReply, NoneFits}
 use Rattle.pb_tool.specs.declared.exchange.Exchange.{Exchange}
 use Rattle.pb_tool.specs.Judging.{EndsWith, JudgesByte}
 use Rattle.pb_tool.specs.Exchange.{left, Judges}
@@ -87,7 +86,7 @@ pub Passes-more : (request : Request) (me node : ℕ) (old mid new : Exchange) �
     → left new ≡ take (mid.len - (mid.at + 1)) (drop (mid.at + 1) mid.chunk) → new.at ≡ mid.at + 1
     → JudgesByte request me node mid.unframer (get_or mid.chunk mid.at 0) None new.unframer → Passes request me node old new
 Passes-more request me node old mid new within fits p rest next j = record {
-    place = omega (arith, p.place, next, length-append p.pushed (get_or mid.chunk mid.at 0 ∷ []));
+  place = omega (arith, p.place, next, length-append p.pushed (get_or mid.chunk mid.at 0 ∷ []));
   pushed = p.pushed ++ get_or mid.chunk mid.at 0 ∷ [];
   shown = p.shown ++ j.shown;
   follows = Follows-trans old.unframer mid.unframer new.unframer p.pushed (get_or mid.chunk mid.at 0 ∷ []) p.shown j.shown p.follows j.follows;

@@ -1,26 +1,26 @@
 -- What a ping's answer means, from what each of its two requests heard.
-use Rattle.std.proofs.Common.{◌≡◌, ◌≢◌, ℕ, ◌+◌, ◌≤◌, List, [], ◌∷◌, ◌++◌, Option, Result, Ok, Err, length, refl, sym, ap, subst, ◌∙◌, append_assoc}
+use Rattle.std.proofs.Common.{◌≡◌, ◌≢◌, ℕ, ◌≤◌, List, [], ◌∷◌, ◌++◌, Option, Ok, Err, length, refl, sym, ap, subst, ◌∙◌, append_assoc}
 use Rattle.std.proofs.lemmas.List.{append-nil}
 use Rattle.pb_base.specs.World.{World, Sent, sent}
 use Rattle.pb_base.specs.declared.nsec.Nsec.{Nsec}
 use Rattle.pb_io.specs.Site.{GrowsBy}
 use Rattle.pb_io.proofs.WorldLemmas.{GrowsBy-trans}
 use Rattle.pb_frame.specs.Framing.{Verdict, verdicts}
-use Rattle.pb_frame.specs.Hearing.{Hearing, Follows, StandsFor}
+use Rattle.pb_frame.specs.Hearing.{StandsFor}
 use Rattle.pb_frame.proofs.FollowsLemmas.{Follows-trans, Follows-start, verdicts-append}
 use Rattle.pb_tool.specs.declared.greeting.Request.{Request}
 use Rattle.pb_tool.specs.declared.greeting.Request.TheVariants as request
 use Rattle.pb_tool.specs.declared.greeting.Reply.{Reply}
 use Rattle.pb_tool.specs.declared.greeting.Reply.TheVariants as reply
-use Rattle.pb_tool.specs.declared.greeting.Pinged.{Pinged}
 use Rattle.pb_tool.specs.declared.greeting.Cause.{Cause}
 use Rattle.pb_tool.specs.declared.greeting.Cause.TheVariants.{NoAnswer, Flooded, Refused}
-use Rattle.pb_tool.specs.declared.greeting.PingFault.{PingFault}
 use Rattle.pb_tool.specs.declared.greeting.PingFault.TheVariants as fault
 use Rattle.pb_tool.specs.declared.exchange.Exchange.{Exchange}
 use Rattle.pb_tool.specs.declared.exchange.Asked.{Asked}
 use Rattle.pb_tool.specs.declared.exchange.Asked.TheVariants as asked
-use Rattle.pb_tool.specs.Ping.{NoneFits, bytes_heard, quiet_ticks, request_frame, HearsHello, HearsClock, HelloAnswered, ClockAnswered, AsksClock, HelloFails, Exhausts, NoClock, Pings, Pinging}
+use Rattle.pb_tool.specs.Ping.{NoneFits, bytes_heard, quiet_ticks, request_frame, ClockAnswered, AsksClock, Exhausts, Pinging}
+use Rattle.pb_tool.specs.declared.status.Status.{Status}
+use Rattle.pb_tool.specs.PingText.{RanPing}
 use Rattle.pb_tool.specs.Judging.{EndsWith}
 use Rattle.pb_tool.specs.Exchange.{left, Asks, Stops}
 use Rattle.pb_tool.proofs.ExchangeLemmas.{bytes_heard-append, bytes_heard-sent, sent-append}
@@ -37,15 +37,15 @@ module _ (me node : ℕ) (start : Exchange) (w x : Option World) (nothing : left
   hello_fails : (cause : Cause) (a : Asked) (first : Exchange) (h : Asks request.Hello me node start w a first x) → left first ≡ [] → NoneFits request.Hello me node h.shown
       → Exhausts cause h.heard → Pinging me node w x (Err (fault.Hello cause))
   hello_fails cause a first h none no_reply limit = record {
-      events = Sent (request_frame request.Hello me node) ∷ h.heard;
-      grows = h.grows;
-      pings = record {
-        heard = h.heard;
-        hears = record { is = refl; no_more_sent = h.none_sent };
-        none = subst (NoneFits request.Hello me node) (sym (ap verdicts (bytes_heard-sent _ h.heard) ∙ hello_verdicts a first h none)) no_reply;
-        limit = limit;
-      };
-    }
+    events = Sent (request_frame request.Hello me node) ∷ h.heard;
+    grows = h.grows;
+    pings = record {
+      heard = h.heard;
+      hears = record { is = refl; no_more_sent = h.none_sent };
+      none = subst (NoneFits request.Hello me node) (sym (ap verdicts (bytes_heard-sent _ h.heard) ∙ hello_verdicts a first h none)) no_reply;
+      limit = limit;
+    };
+  }
 
   pub hello_no_answer : (first : Exchange) → Asks request.Hello me node start w asked.NoAnswer first x → Pinging me node w x (Err (fault.Hello NoAnswer))
   hello_no_answer first h = hello_fails NoAnswer asked.NoAnswer first h h.ended.1 h.ended.0 h.ended.2
@@ -56,22 +56,26 @@ module _ (me node : ℕ) (start : Exchange) (w x : Option World) (nothing : left
 -- a call of the link failed at the hello, or at the clock
 pub link_failed : (me node : ℕ) (w x : Option World) → Stops (request_frame request.Hello me node ∷ []) w x → Pinging me node w x (Err fault.LinkFault)
 link_failed me node w x s = record {
-    events = s.events;
-    grows = s.grows;
-    pings = (s.rest ++ request_frame request.Clock me node ∷ [],
-      sym (append_assoc (sent s.events) s.rest (request_frame request.Clock me node ∷ [])) ∙ ap (λ l. l ++ request_frame request.Clock me node ∷ []) s.frames_sent);
-  }
+  events = s.events;
+  grows = s.grows;
+  pings = (
+    s.rest ++ request_frame request.Clock me node ∷ [],
+    sym (append_assoc (sent s.events) s.rest (request_frame request.Clock me node ∷ [])) ∙ ap (λ l. l ++ request_frame request.Clock me node ∷ []) s.frames_sent,
+  );
+}
 
 pub link_failed_later : (me node : ℕ) (start first : Exchange) (w x y : Option World) (a : Asked) → Asks request.Hello me node start w a first x
     → Stops (request_frame request.Clock me node ∷ []) x y → Pinging me node w y (Err fault.LinkFault)
 link_failed_later me node start first w x y a h s = record {
-    events = (Sent (request_frame request.Hello me node) ∷ h.heard) ++ s.events;
-    grows = GrowsBy-trans w x y (Sent (request_frame request.Hello me node) ∷ h.heard) s.events h.grows s.grows;
-    pings = (s.rest,
-      ap (λ l. l ++ s.rest) (sent-append (Sent (request_frame request.Hello me node) ∷ h.heard) s.events)
-      ∙ ap (λ l. (request_frame request.Hello me node ∷ l) ++ sent s.events ++ s.rest) h.none_sent
-      ∙ ap (λ l. request_frame request.Hello me node ∷ l) s.frames_sent);
-  }
+  events = (Sent (request_frame request.Hello me node) ∷ h.heard) ++ s.events;
+  grows = GrowsBy-trans w x y (Sent (request_frame request.Hello me node) ∷ h.heard) s.events h.grows s.grows;
+  pings = (
+    s.rest,
+    ap (λ l. l ++ s.rest) (sent-append (Sent (request_frame request.Hello me node) ∷ h.heard) s.events)
+        ∙ ap (λ l. (request_frame request.Hello me node ∷ l) ++ sent s.events ++ s.rest) h.none_sent
+        ∙ ap (λ l. request_frame request.Hello me node ∷ l) s.frames_sent,
+  );
+}
 
 -- ---- the hello, and then the clock
 
@@ -103,19 +107,19 @@ module _ (me node : ℕ) (start first second : Exchange) (w x y : Option World) 
   asks_clock : (more : List Verdict) → verdicts (bytes_heard events_of) ≡ (h.shown ++ c.shown) ++ more → AsksClock me node router metric verify events_of
   unfolding events_of
   asks_clock more is = record {
-      first = h.heard;
-      second = c.heard;
-      behind = c.shown ++ more;
-      hears = record { is = refl; none_between = h.none_sent; no_more_sent = c.none_sent };
-      answered = record {
-        before = h.ended.before;
-        answer = h.ended.last;
-        split = is ∙ append_assoc h.shown c.shown more ∙ ap (λ l. l ++ (c.shown ++ more)) h.ended.is
+    first = h.heard;
+    second = c.heard;
+    behind = c.shown ++ more;
+    hears = record { is = refl; none_between = h.none_sent; no_more_sent = c.none_sent };
+    answered = record {
+      before = h.ended.before;
+      answer = h.ended.last;
+      split = is ∙ append_assoc h.shown c.shown more ∙ ap (λ l. l ++ (c.shown ++ more)) h.ended.is
           ∙ append_assoc h.ended.before (h.ended.last ∷ []) (c.shown ++ more);
-        none_before = h.ended.none_before;
-        fits = h.ended.fits;
-      };
-    }
+      none_before = h.ended.none_before;
+      fits = h.ended.fits;
+    };
+  }
 
   both_grow : GrowsBy w y events_of
   unfolding events_of
@@ -123,13 +127,13 @@ module _ (me node : ℕ) (start first second : Exchange) (w x y : Option World) 
 
   answered : (answer : Reply) (more : List Verdict) → EndsWith request.Clock me node answer c.shown → ClockAnswered me node answer (c.shown ++ more)
   answered answer more e = record {
-      before = e.before;
-      frame = e.last;
-      after = more;
-      split = ap (λ l. l ++ more) e.is ∙ append_assoc e.before (e.last ∷ []) more;
-      none_before = e.none_before;
-      fits = e.fits;
-    }
+    before = e.before;
+    frame = e.last;
+    after = more;
+    split = ap (λ l. l ++ more) e.is ∙ append_assoc e.before (e.last ∷ []) more;
+    none_before = e.none_before;
+    fits = e.fits;
+  }
 
   pub clock_answered : (time : Nsec) → EndsWith request.Clock me node (reply.Clock 0 time) c.shown
       → Pinging me node w y (Ok (record { router = router; metric = metric; verify = verify; time = time }))
@@ -163,3 +167,8 @@ module _ (me node : ℕ) (start first second : Exchange) (w x y : Option World) 
 -- what was asked is what the call answered
 pub asks_as : {request : Request} {me node : ℕ} {old new : Exchange} {w x : Option World} {a b : Asked} → a ≡ b → Asks request me node old w a new x → Asks request me node old w b new x
 asks_as {request} {me} {node} {old} {new} {w} {x} is h = subst (λ (o : Asked). Asks request me node old w o new x) is h
+
+-- the same for the addresses that the words fix
+pub RanPing-as : {a b me node : ℕ} {r : Status} {w x : Option World} {y z : Option (List ℕ)} → (a ≡ me) × (b ≡ node) → RanPing a b r w x y z → RanPing me node r w x y z
+RanPing-as {a} {b} {me} {node} {r} {w} {x} {y} {z} same ran =
+    subst (λ (n : ℕ). RanPing me n r w x y z) same.1 (subst (λ (m : ℕ). RanPing m b r w x y z) same.0 ran)

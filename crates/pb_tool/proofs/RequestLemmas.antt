@@ -1,5 +1,5 @@
 -- The frame of a request, from what each writer wrote.
-use Rattle.std.proofs.Common.{◌≡◌, ℕ, ◌≤◌, List, [], ◌∷◌, ◌++◌, Result, Ok, Err, IfOk, length, take, drop, refl, sym, ap, subst, ◌∙◌}
+use Rattle.std.proofs.Common.{◌≡◌, ℕ, List, ◌++◌, Result, Ok, IfOk, length, take, drop, sym, ap, subst, ◌∙◌}
 use Rattle.std.proofs.lemmas.List.{take_at}
 use Rattle.pb_base.specs.declared.refusal.Full.{Full as NoRoom}
 use Rattle.pb_base.specs.Put.{IsWritten}

@@ -1,9 +1,9 @@
 -- How one request goes: what is sent, heard and judged until its answer or a limit.
-use Rattle.std.specs.Prelude.{◌≡◌, ◌⊎◌, ℕ, ◌+◌, ◌-◌, ◌<◌, ◌≤◌, List, [], ◌∷◌, ◌++◌, length, take, drop, Option, MatchOption}
+use Rattle.std.specs.Prelude.{◌≡◌, ℕ, ◌+◌, ◌-◌, ◌≤◌, List, [], ◌∷◌, ◌++◌, length, take, drop, Option, MatchOption}
 use Rattle.pb_base.specs.World.{World, Sent, sent}
 use Rattle.pb_io.specs.Site.{GrowsBy}
 use Rattle.pb_frame.specs.Framing.{Verdict}
-use Rattle.pb_frame.specs.Hearing.{Hearing, Follows}
+use Rattle.pb_frame.specs.Hearing.{Follows}
 use Rattle.pb_tool.specs.declared.greeting.Request.{Request}
 use Rattle.pb_tool.specs.declared.greeting.Reply.{Reply}
 use Rattle.pb_tool.specs.declared.exchange.Exchange.{Exchange}

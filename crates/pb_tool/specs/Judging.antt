@@ -1,5 +1,5 @@
 -- What a run of heard bytes shows of the reply to a request.
-use Rattle.std.specs.Prelude.{◌≡◌, ℕ, ◌+◌, ◌≤◌, List, [], ◌∷◌, ◌++◌, length, take, Option, MatchOption}
+use Rattle.std.specs.Prelude.{◌≡◌, ℕ, ◌+◌, List, [], ◌∷◌, ◌++◌, Option, MatchOption}
 use Rattle.pb_frame.specs.Framing.{Verdict}
 use Rattle.pb_frame.specs.Hearing.{Hearing, Follows}
 use Rattle.pb_tool.specs.declared.greeting.Request.{Request}

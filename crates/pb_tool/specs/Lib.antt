@@ -3,6 +3,7 @@ pub mod Hex
 pub mod Judging
 pub mod PacketText
 pub mod Ping
+pub mod PingText
 pub mod Ran
 pub mod ShowText
 pub mod Showing

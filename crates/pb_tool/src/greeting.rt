@@ -72,11 +72,15 @@ pub fn ping<S: Site>(site: &mut S, me: NodeId, node: NodeId) -> Result<Pinged, P
         Ok(Asked::NoAnswer) => return Err(PingFault::Hello(Cause::NoAnswer)),
         Ok(Asked::Flooded) => return Err(PingFault::Hello(Cause::Flooded)),
         Ok(Asked::Reply(Reply::Clock { .. })) => unreachable!(),
-        Ok(Asked::Reply(Reply::Hello {
-            router,
-            metric,
-            verify,
-        })) => (router, metric, verify),
+        Ok(
+            Asked::Reply(
+                Reply::Hello {
+                    router,
+                    metric,
+                    verify,
+                },
+            ),
+        ) => (router, metric, verify),
     };
     match exchange.ask(site, Request::Clock, me, node) {
         Err(Failed) => Err(PingFault::LinkFault),

@@ -7,6 +7,7 @@ mod exchange;
 mod greeting;
 mod lines;
 mod page;
+mod ping_lines;
 mod reply;
 mod request;
 mod show;

@@ -126,3 +126,104 @@ fn refuses_words_that_are_not_listed(rt: HostRuntime) -> Result<(), Fail> {
     assert_eq!(rt; status, Status::WriteFault);
     Ok(())
 }
+
+const HELLO_REPLY: &[u8] =
+    b"\xBD\xAF\xFE\x90\x01\x0F\xFE\x00\x01\x89\x01\x01\x02\x07\x08\x3B\xBE\xBD";
+
+const CLOCK_REPLY: &[u8] =
+    b"\xBD\xAF\xFE\x10\x01\x1F\xFE\x00\x01\x97\x02\x00\x3B\x9A\xCA\x00\x00\x00\x00\x00\x1F\xB7\xBD";
+
+const BOTH_REPLIES: &[u8] =
+    b"\xBD\xAF\xFE\x90\x01\x0F\xFE\x00\x01\x89\x01\x01\x02\x07\x08\x3B\xBE\xBD\xBD\xAF\xFE\x10\x01\x1F\xFE\x00\x01\x97\x02\x00\x3B\x9A\xCA\x00\x00\x00\x00\x00\x1F\xB7\xBD";
+
+const CLOCK_REFUSED: &[u8] = b"\xBD\xAF\xFE\x10\x01\x1F\xFE\x00\x01\x97\x02\x01\xE7\x8A\xBD";
+
+// What a ping of node 1 by node 4094 came to.
+#[derive(Drop)]
+struct Ping {
+    status: Status,
+    written: Vec<u8>,
+    hello: Vec<u8>,
+    clock: Vec<u8>,
+}
+
+// Pings over a site in memory that hears these pieces; the link calls whose numbers are given fail.
+fn pinged(alloc: Global, pieces: &[&[u8]], fails: &[u64]) -> Result<Ping, Fail> {
+    let mut words = Vec::new(alloc);
+    for word in ["-", "-", "ping", "4094", "1"] {
+        words.push(String::from_str(alloc, word)?)?;
+    }
+    let mut site = MemSite::new(alloc, MemDisk::new(alloc, &[], &[])?, fails)?;
+    for piece in pieces {
+        site.hears(piece)?;
+    }
+    let mut source = MemSource::new(alloc, &[], 1, &[])?;
+    let mut sink = MemSink::new(alloc, &[])?;
+    let status = run(alloc, &words, &mut site, &mut source, &mut sink);
+    Ok(Ping {
+        status,
+        written: Vec::from_slice(alloc, sink.bytes())?,
+        hello: Vec::from_slice(alloc, site.sent(0).unwrap_or(&[]))?,
+        clock: Vec::from_slice(alloc, site.sent(1).unwrap_or(&[]))?,
+    })
+}
+
+#[test]
+fn pings(rt: HostRuntime) -> Result<(), Fail> {
+    let lines: &[u8] = b"hello 1 router 1 metric 2 verify 1800\nclock 1 2021-09-09 01:46:40\n";
+    let table: [&[&[u8]]; 3] = [
+        &[HELLO_REPLY, CLOCK_REPLY],
+        &[BOTH_REPLIES],
+        &[b"\xBD", &[], HELLO_REPLY, &[], CLOCK_REPLY],
+    ];
+    for pieces in table {
+        let ping = pinged(rt.alloc(), pieces, &[])?;
+        assert_eq!(rt; ping.written.as_slice(), lines);
+        assert_eq!(rt; ping.status, Status::Done);
+        assert_eq!(rt;
+            ping.hello.as_slice(),
+            b"\xBD\xA0\x01\x9F\xFE\x00\x01\x0F\xFE\x09\x01\x00\x02\x07\x08\xE8\x1F\xBD".as_slice()
+        );
+        assert_eq!(rt;
+            ping.clock.as_slice(),
+            b"\xBD\xA0\x01\x5F\xFE\x10\x01\x0F\xFE\x17\x02\x00\x00\x00\x00\x00\x00\x00\x00\x00\x00\x88\xF2\xBD".as_slice()
+        );
+    }
+    Ok(())
+}
+
+#[test]
+fn pings_without_an_answer(rt: HostRuntime) -> Result<(), Fail> {
+    // Nothing, and what isn't the reply: of another node, to another address, of another transaction, of another
+    // protocol, cut, a link state, damaged.
+    let table: [&[&[u8]]; 8] = [
+        &[],
+        &[b"\xBD\xAF\xFE\x90\x01\x0F\xFE\x00\x02\x89\x01\x01\x02\x07\x08\xA0\x14\xBD"],
+        &[b"\xBD\xAF\xFE\x90\x01\x0F\xFD\x00\x01\x89\x01\x01\x02\x07\x08\xCE\xB5\xBD"],
+        &[b"\xBD\xAF\xFE\x90\x01\x0F\xFE\x00\x01\x89\x02\x01\x02\x07\x08\xF5\xA1\xBD"],
+        &[b"\xBD\xAF\xFE\x90\x01\x1F\xFE\x00\x01\x89\x01\x01\x02\x07\x08\xAF\xA4\xBD"],
+        &[b"\xBD\xAF\xFE\x90\x01\x0F\xFE\x00\x01\x89\x01\x01\x02\x07\xC6\xBF\xBD"],
+        &[b"\xBD\xAF\xFE\x90\x01\x8B\x6A\xBD"],
+        &[b"\xBD\xAF\xFE\x90\x01\x0F\xFE\x00\x01\x89\x01\x01\x03\x07\x08\x3B\xBE\xBD"],
+    ];
+    for pieces in table {
+        let ping = pinged(rt.alloc(), pieces, &[])?;
+        assert_eq!(rt; ping.written.as_slice(), b"hello 1 no answer\n".as_slice());
+        assert_eq!(rt; ping.status, Status::Incomplete);
+        assert_eq!(rt; ping.clock.len(), 0);
+    }
+    let ping = pinged(rt.alloc(), &[HELLO_REPLY, CLOCK_REFUSED], &[])?;
+    assert_eq!(rt;
+        ping.written.as_slice(),
+        b"hello 1 router 1 metric 2 verify 1800\nclock 1 refused 1\n".as_slice()
+    );
+    assert_eq!(rt; ping.status, Status::Incomplete);
+
+    // The first sending fails, or a call behind the hello's reply.
+    for failed in [0, 2, 3] {
+        let ping = pinged(rt.alloc(), &[HELLO_REPLY, CLOCK_REPLY], &[failed])?;
+        assert_eq!(rt; ping.written.as_slice(), b"pakbus: link fault\n".as_slice());
+        assert_eq!(rt; ping.status, Status::LinkFault);
+    }
+    Ok(())
+}

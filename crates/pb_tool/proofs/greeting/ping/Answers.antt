@@ -12,20 +12,20 @@ returns-in-Err-clause-pings g c = link_failed c.args.me c.args.node _ _ c.in-Err
 pub returns-in-Ok-NoAnswer-clause-pings : goal.returns-in-Ok-NoAnswer-clause-pings
 returns-in-Ok-NoAnswer-clause-pings g c =
     hello_no_answer c.args.me c.args.node c.new-exchange.result _ _ c.new-exchange.ensures.nothing c.new-exchange.ensures.stands c.ask.new.self
-      (asks_as c.in-Ok-NoAnswer.field-0-is c.in-Ok-NoAnswer.ensures.asks)
+    (asks_as c.in-Ok-NoAnswer.field-0-is c.in-Ok-NoAnswer.ensures.asks)
 
 pub returns-in-Ok-Flooded-clause-pings : goal.returns-in-Ok-Flooded-clause-pings
 returns-in-Ok-Flooded-clause-pings g c =
     hello_flooded c.args.me c.args.node c.new-exchange.result _ _ c.new-exchange.ensures.nothing c.new-exchange.ensures.stands c.ask.new.self
-      (asks_as c.in-Ok-Flooded.field-0-is c.in-Ok-Flooded.ensures.asks)
+    (asks_as c.in-Ok-Flooded.field-0-is c.in-Ok-Flooded.ensures.asks)
 
 pub returns-then-resp-ne0-clause-pings : goal.returns-then-resp-ne0-clause-pings
 returns-then-resp-ne0-clause-pings g c =
     let hello = asks_as (c.in-Ok-Reply-Hello.field-0-is ∙ ap asked.Reply c.in-Ok-Reply-Hello.field-0-0-is) c.in-Ok-Reply-Hello.ensures.asks in
     let clock = asks_as (c.in-Ok-Reply-Clock-ask.field-0-is ∙ ap asked.Reply c.in-Ok-Reply-Clock-ask.field-0-0-is) c.in-Ok-Reply-Clock-ask.ensures.asks in
     clock_refused c.args.me c.args.node c.new-exchange.result c.ask.new.self c.ask-2.new.self _ _ _ c.new-exchange.ensures.nothing c.new-exchange.ensures.stands
-      c.in-Ok-Reply-Hello.router c.in-Ok-Reply-Hello.metric c.in-Ok-Reply-Hello.verify _ hello clock
-      c.in-Ok-Reply-Clock-ask.resp c.in-Ok-Reply-Clock-ask.time c.if-resp-ne0.true clock.ended
+    c.in-Ok-Reply-Hello.router c.in-Ok-Reply-Hello.metric c.in-Ok-Reply-Hello.verify _ hello clock
+    c.in-Ok-Reply-Clock-ask.resp c.in-Ok-Reply-Clock-ask.time c.if-resp-ne0.true clock.ended
 
 pub returns-in-Err-ask-clause-pings : goal.returns-in-Err-ask-clause-pings
 returns-in-Err-ask-clause-pings g c =
@@ -37,19 +37,19 @@ returns-in-Ok-NoAnswer-ask-clause-pings g c =
     let hello = asks_as (c.in-Ok-Reply-Hello.field-0-is ∙ ap asked.Reply c.in-Ok-Reply-Hello.field-0-0-is) c.in-Ok-Reply-Hello.ensures.asks in
     let clock = asks_as c.in-Ok-NoAnswer-ask.field-0-is c.in-Ok-NoAnswer-ask.ensures.asks in
     clock_no_answer c.args.me c.args.node c.new-exchange.result c.ask.new.self c.ask-2.new.self _ _ _ c.new-exchange.ensures.nothing c.new-exchange.ensures.stands
-      c.in-Ok-Reply-Hello.router c.in-Ok-Reply-Hello.metric c.in-Ok-Reply-Hello.verify _ hello clock clock.ended.1 clock.ended.0 clock.ended.2
+    c.in-Ok-Reply-Hello.router c.in-Ok-Reply-Hello.metric c.in-Ok-Reply-Hello.verify _ hello clock clock.ended.1 clock.ended.0 clock.ended.2
 
 pub returns-in-Ok-Flooded-ask-clause-pings : goal.returns-in-Ok-Flooded-ask-clause-pings
 returns-in-Ok-Flooded-ask-clause-pings g c =
     let hello = asks_as (c.in-Ok-Reply-Hello.field-0-is ∙ ap asked.Reply c.in-Ok-Reply-Hello.field-0-0-is) c.in-Ok-Reply-Hello.ensures.asks in
     let clock = asks_as c.in-Ok-Flooded-ask.field-0-is c.in-Ok-Flooded-ask.ensures.asks in
     clock_flooded c.args.me c.args.node c.new-exchange.result c.ask.new.self c.ask-2.new.self _ _ _ c.new-exchange.ensures.nothing c.new-exchange.ensures.stands
-      c.in-Ok-Reply-Hello.router c.in-Ok-Reply-Hello.metric c.in-Ok-Reply-Hello.verify _ hello clock clock.ended.1 clock.ended.0 clock.ended.2
+    c.in-Ok-Reply-Hello.router c.in-Ok-Reply-Hello.metric c.in-Ok-Reply-Hello.verify _ hello clock clock.ended.1 clock.ended.0 clock.ended.2
 
 pub returns-else-resp-ne0-clause-pings : goal.returns-else-resp-ne0-clause-pings
 returns-else-resp-ne0-clause-pings g c =
     let hello = asks_as (c.in-Ok-Reply-Hello.field-0-is ∙ ap asked.Reply c.in-Ok-Reply-Hello.field-0-0-is) c.in-Ok-Reply-Hello.ensures.asks in
     let clock = asks_as (c.in-Ok-Reply-Clock-ask.field-0-is ∙ ap asked.Reply c.in-Ok-Reply-Clock-ask.field-0-0-is) c.in-Ok-Reply-Clock-ask.ensures.asks in
     clock_answered c.args.me c.args.node c.new-exchange.result c.ask.new.self c.ask-2.new.self _ _ _ c.new-exchange.ensures.nothing c.new-exchange.ensures.stands
-      c.in-Ok-Reply-Hello.router c.in-Ok-Reply-Hello.metric c.in-Ok-Reply-Hello.verify _ hello clock
-      c.in-Ok-Reply-Clock-ask.time (subst (λ (resp : ℕ). EndsWith request.Clock c.args.me c.args.node (reply.Clock resp c.in-Ok-Reply-Clock-ask.time) clock.shown) c.if-resp-ne0.false clock.ended)
+    c.in-Ok-Reply-Hello.router c.in-Ok-Reply-Hello.metric c.in-Ok-Reply-Hello.verify _ hello clock
+    c.in-Ok-Reply-Clock-ask.time (subst (λ (resp : ℕ). EndsWith request.Clock c.args.me c.args.node (reply.Clock resp c.in-Ok-Reply-Clock-ask.time) clock.shown) c.if-resp-ne0.false clock.ended)

@@ -5,7 +5,7 @@ use Rattle.pb_tool.proofs.exchange.Exchange.ask.Goals as goal
 pub returns-in-Some-clause-asks : goal.returns-in-Some-clause-asks
 returns-in-Some-clause-asks g c =
     Asks-at_once c.args.request c.args.me c.args.node c.args.self.now c.judge.new.self _ _ c.in-Some.reply (sent_frame c.write_request-len.ensures.frame c.in_ok-send.ensures.world)
-      (few_at_hand c.args.self.now) (judges_as c.in-Some.is c.judge.ensures)
+    (few_at_hand c.args.self.now) (judges_as c.in-Some.is c.judge.ensures)
 
 pub returns-in_err-asked-clause-stops : goal.returns-in_err-asked-clause-stops
 returns-in_err-asked-clause-stops g c =
@@ -14,4 +14,4 @@ returns-in_err-asked-clause-stops g c =
 pub returns-clause-asks : goal.returns-clause-asks
 returns-clause-asks g c =
     Asks-listening c.args.request c.args.me c.args.node c.args.self.now c.judge.new.self c.listen.new.self _ _ _ c.in_ok-asked.asked
-      (sent_frame c.write_request-len.ensures.frame c.in_ok-send.ensures.world) (few_at_hand c.args.self.now) (judges_as c.in_default.is c.judge.ensures) c.in_ok-asked.ensures.listens
+    (sent_frame c.write_request-len.ensures.frame c.in_ok-send.ensures.world) (few_at_hand c.args.self.now) (judges_as c.in_default.is c.judge.ensures) c.in_ok-asked.ensures.listens

@@ -1,4 +1,4 @@
-use Rattle.std.proofs.Common.{arith, rules, refl, length, ◌≤◌, take, ◌∙◌}
+use Rattle.std.proofs.Common.{arith, refl, length, ◌≤◌, take, ◌∙◌}
 use Rattle.std.proofs.lemmas.List.{length-take-le}
 use Rattle.pb_io.proofs.SinkLemmas.{OnErr-anyway}
 use Rattle.pb_tool.proofs.ExchangeLemmas.{Listening-start, Listening-more, Listens-reply, Stops-listening, arrives, judges_as, from_start}
@@ -23,9 +23,9 @@ pub returns-in-Some-clause-listens : goal.returns-in-Some-clause-listens
 returns-in-Some-clause-listens g c =
     let fits : c.in_ok-n.n ≤ length c.recv.new.to = omega (arith, c.in_ok-n.ensures.bound) in
     Listens-reply c.args.request c.args.me c.args.node c.args.self.now c.loop-quiets.self _ c.judge.new.self _ _ _ c.loop-quiets.quiets c.loop-quiets.heard c.in_ok-n.n
-      (take c.in_ok-n.n c.recv.new.to) c.in-Some.reply c.requires.nothing (omega arith) (omega (arith, c.in_ok-n.ensures.bound, c.loop-quiets.self.size)) c.loop-quiets.invariant.so_far
-      (arrives c.in_ok-n.n c.recv.new.to _ _ c.in_ok-n.ensures.world) (length-take-le c.in_ok-n.n c.recv.new.to fits) refl (from_start c.in_ok-n.n c.recv.new.to)
-      (judges_as c.in-Some.is c.judge.ensures)
+    (take c.in_ok-n.n c.recv.new.to) c.in-Some.reply c.requires.nothing (omega arith) (omega (arith, c.in_ok-n.ensures.bound, c.loop-quiets.self.size)) c.loop-quiets.invariant.so_far
+    (arrives c.in_ok-n.n c.recv.new.to _ _ c.in_ok-n.ensures.world) (length-take-le c.in_ok-n.n c.recv.new.to fits) refl (from_start c.in_ok-n.n c.recv.new.to)
+    (judges_as c.in-Some.is c.judge.ensures)
 
 pub loop-quiets-preserved : goal.loop-quiets-preserved
 loop-quiets-preserved g c =
@@ -34,9 +34,9 @@ loop-quiets-preserved g c =
     let now = c.in_ok-n.ensures.disk in
     record {
       so_far = rw c.quiet_tick-quiets.ensures.value
-        (Listening-more c.args.request c.args.me c.args.node c.args.self.now c.loop-quiets.self _ c.judge.new.self _ _ _ c.loop-quiets.quiets c.loop-quiets.heard c.in_ok-n.n
-        (take c.in_ok-n.n c.recv.new.to) c.loop-quiets.invariant.so_far (arrives c.in_ok-n.n c.recv.new.to _ _ c.in_ok-n.ensures.world)
-        (length-take-le c.in_ok-n.n c.recv.new.to fits) refl (from_start c.in_ok-n.n c.recv.new.to) (judges_as c.in_default.is c.judge.ensures));
+          (Listening-more c.args.request c.args.me c.args.node c.args.self.now c.loop-quiets.self _ c.judge.new.self _ _ _ c.loop-quiets.quiets c.loop-quiets.heard c.in_ok-n.n
+          (take c.in_ok-n.n c.recv.new.to) c.loop-quiets.invariant.so_far (arrives c.in_ok-n.n c.recv.new.to _ _ c.in_ok-n.ensures.world)
+          (length-take-le c.in_ok-n.n c.recv.new.to fits) refl (from_start c.in_ok-n.n c.recv.new.to) (judges_as c.in_default.is c.judge.ensures));
       few = omega (arith, c.in_ok-n.ensures.bound, c.loop-quiets.self.size);
       ticks = omega (arith, c.quiet_tick-quiets.ensures.small);
       disk = record { file = now.file ∙ before.file; fewer = λ d is. before.fewer d (now.fewer d is); more = λ d is. now.more d (before.more d is) };

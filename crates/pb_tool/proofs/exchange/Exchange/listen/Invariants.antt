@@ -1,4 +1,4 @@
-use Rattle.std.proofs.Common.{◌≡◌, ◌≤◌, ◌+◌, ◌-◌, ℕ}
+use Rattle.std.proofs.Common.{◌≡◌, ◌≤◌, ◌+◌, ◌-◌}
 use Rattle.pb_io.specs.Disk.{Looks}
 use Rattle.pb_tool.proofs.ExchangeLemmas.{Listening}
 use Rattle.pb_tool.proofs.exchange.Exchange.listen.Given as goal

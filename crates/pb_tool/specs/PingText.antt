@@ -1,0 +1,55 @@
+-- What `ping` prints, and its status, by its answer.
+use Rattle.std.specs.Prelude.{ℕ, List, ◌++◌, Option, Result, Ok, Err, codes, decimal}
+use Rattle.pb_base.specs.World.{World}
+use Rattle.pb_base.specs.declared.nsec.Nsec.{Nsec}
+use Rattle.pb_tool.specs.declared.greeting.Pinged.{Pinged}
+use Rattle.pb_tool.specs.declared.greeting.Cause.{Cause}
+use Rattle.pb_tool.specs.declared.greeting.Cause.TheVariants.{NoAnswer, Flooded, Refused}
+use Rattle.pb_tool.specs.declared.greeting.PingFault.{PingFault}
+use Rattle.pb_tool.specs.declared.greeting.PingFault.TheVariants as fault
+use Rattle.pb_tool.specs.declared.status.Status.{Status}
+use Rattle.pb_tool.specs.declared.status.Status.TheVariants as status
+use Rattle.pb_tool.specs.Ping.{Pinging}
+use Rattle.pb_tool.specs.Ran.{Closes}
+use Rattle.pb_tool.specs.TimeText.{time_text}
+
+-- `hello NODE router B metric B verify H`
+unfoldable pub hello_text : (node router metric verify : ℕ) → List ℕ
+hello_text node router metric verify =
+    codes "hello " ++ decimal node ++ codes " router " ++ decimal router ++ codes " metric " ++ decimal metric ++ codes " verify " ++ decimal verify ++ codes "\n"
+
+-- `clock NODE TIME`
+unfoldable pub clock_text : ℕ → Nsec → List ℕ
+clock_text node time = codes "clock " ++ decimal node ++ codes " " ++ time_text time ++ codes "\n"
+
+unfoldable pub cause_text : Cause → List ℕ
+cause_text NoAnswer = codes "no answer"
+cause_text Flooded = codes "flooded"
+cause_text (Refused c) = codes "refused " ++ decimal c
+
+-- `hello NODE CAUSE`
+unfoldable pub no_hello_text : ℕ → Cause → List ℕ
+no_hello_text node cause = codes "hello " ++ decimal node ++ codes " " ++ cause_text cause ++ codes "\n"
+
+-- `clock NODE CAUSE`
+unfoldable pub no_clock_text : ℕ → Cause → List ℕ
+no_clock_text node cause = codes "clock " ++ decimal node ++ codes " " ++ cause_text cause ++ codes "\n"
+
+unfoldable pub ping_text : ℕ → Result Pinged PingFault → List ℕ
+ping_text node (Ok p) = hello_text node p.router p.metric p.verify ++ clock_text node p.time
+ping_text node (Err (fault.Hello cause)) = no_hello_text node cause
+ping_text node (Err (fault.Clock cause router metric verify)) = hello_text node router metric verify ++ no_clock_text node cause
+ping_text node (Err fault.LinkFault) = codes "pakbus: link fault\n"
+
+abbrev pub ping_status : Result Pinged PingFault → Status
+ping_status (Ok p) = status.Done
+ping_status (Err fault.LinkFault) = status.LinkFault
+ping_status (Err (fault.Hello cause)) = status.Incomplete
+ping_status (Err (fault.Clock cause router metric verify)) = status.Incomplete
+
+-- The world grew by the events that the answer means, and the answer's text was written, or a front of it where a
+-- write failed.
+pub record RanPing (me node : ℕ) (result : Status) (world_old world_new : Option World) (written_old written_new : Option (List ℕ)) : Type 0 where
+  pub answer : Result Pinged PingFault
+  pub pinging : Pinging me node world_old world_new answer
+  pub printed : Closes (ping_status answer) result (ping_text node answer) written_old written_new
