@@ -1,7 +1,7 @@
 -- What a ping's answer means, from what each of its two requests heard.
-use Rattle.std.proofs.Common.{◌≡◌, ◌≢◌, ℕ, ◌≤◌, List, [], ◌∷◌, ◌++◌, Option, Ok, Err, length, refl, sym, ap, subst, ◌∙◌, append_assoc}
+use Rattle.std.proofs.Common.{◌≡◌, ◌≢◌, ℕ, ◌≤◌, List, [], ◌∷◌, ◌++◌, Option, Ok, Err, length, inl, inr, refl, sym, ap, subst, ◌∙◌, append_assoc}
 use Rattle.std.proofs.lemmas.List.{append-nil}
-use Rattle.pb_base.specs.World.{World, Sent, sent}
+use Rattle.pb_base.specs.World.{World, Sent}
 use Rattle.pb_base.specs.declared.nsec.Nsec.{Nsec}
 use Rattle.pb_io.specs.Site.{GrowsBy}
 use Rattle.pb_io.proofs.WorldLemmas.{GrowsBy-trans}
@@ -18,12 +18,12 @@ use Rattle.pb_tool.specs.declared.greeting.PingFault.TheVariants as fault
 use Rattle.pb_tool.specs.declared.exchange.Exchange.{Exchange}
 use Rattle.pb_tool.specs.declared.exchange.Asked.{Asked}
 use Rattle.pb_tool.specs.declared.exchange.Asked.TheVariants as asked
-use Rattle.pb_tool.specs.Ping.{NoneFits, bytes_heard, quiet_ticks, request_frame, ClockAnswered, AsksClock, Exhausts, Pinging}
+use Rattle.pb_tool.specs.Ping.{NoneFits, bytes_heard, quiet_ticks, request_frame, ClockAnswered, IsAnswered, AsksClock, Exhausts, Pinging}
 use Rattle.pb_tool.specs.declared.status.Status.{Status}
 use Rattle.pb_tool.specs.PingText.{RanPing}
 use Rattle.pb_tool.specs.Judging.{EndsWith}
 use Rattle.pb_tool.specs.Exchange.{left, Asks, Stops}
-use Rattle.pb_tool.proofs.ExchangeLemmas.{bytes_heard-append, bytes_heard-sent, sent-append}
+use Rattle.pb_tool.proofs.ExchangeLemmas.{bytes_heard-append, bytes_heard-sent}
 
 -- ---- the hello alone
 
@@ -53,29 +53,50 @@ module _ (me node : ℕ) (start : Exchange) (w x : Option World) (nothing : left
   pub hello_flooded : (first : Exchange) → Asks request.Hello me node start w asked.Flooded first x → Pinging me node w x (Err (fault.Hello Flooded))
   hello_flooded first h = hello_fails Flooded asked.Flooded first h h.ended.1 h.ended.0 h.ended.2
 
--- a call of the link failed at the hello, or at the clock
+-- a call of the link failed at the hello
 pub link_failed : (me node : ℕ) (w x : Option World) → Stops (request_frame request.Hello me node ∷ []) w x → Pinging me node w x (Err fault.LinkFault)
-link_failed me node w x s = record {
-  events = s.events;
-  grows = s.grows;
-  pings = (
-    s.rest ++ request_frame request.Clock me node ∷ [],
-    sym (append_assoc (sent s.events) s.rest (request_frame request.Clock me node ∷ [])) ∙ ap (λ l. l ++ request_frame request.Clock me node ∷ []) s.frames_sent,
-  );
-}
+link_failed me node w x s = record { events = s.events; grows = s.grows; pings = inl (s.rest, s.frames_sent) }
 
-pub link_failed_later : (me node : ℕ) (start first : Exchange) (w x y : Option World) (a : Asked) → Asks request.Hello me node start w a first x
-    → Stops (request_frame request.Clock me node ∷ []) x y → Pinging me node w y (Err fault.LinkFault)
-link_failed_later me node start first w x y a h s = record {
-  events = (Sent (request_frame request.Hello me node) ∷ h.heard) ++ s.events;
-  grows = GrowsBy-trans w x y (Sent (request_frame request.Hello me node) ∷ h.heard) s.events h.grows s.grows;
-  pings = (
-    s.rest,
-    ap (λ l. l ++ s.rest) (sent-append (Sent (request_frame request.Hello me node) ∷ h.heard) s.events)
-        ∙ ap (λ l. (request_frame request.Hello me node ∷ l) ++ sent s.events ++ s.rest) h.none_sent
-        ∙ ap (λ l. request_frame request.Hello me node ∷ l) s.frames_sent,
-  );
-}
+-- ---- the answered hello
+
+module _ (me node : ℕ) (start first : Exchange) (w x : Option World) (nothing : left start ≡ []) (stands : StandsFor start.unframer [])
+    (router metric verify : ℕ) (h : Asks request.Hello me node start w (asked.Reply (reply.Hello router metric verify)) first x) where
+  hello_heard : bytes_heard h.heard ≡ h.pushed ++ left first
+  hello_heard = ap (λ l. l ++ bytes_heard h.heard) (sym nothing) ∙ h.split
+
+  -- the answer is among the frames heard before anything else was sent
+  pub in_time : IsAnswered me node router metric verify h.heard
+  in_time =
+      let grown = verdicts-append h.pushed (left first) in (
+        grown.0,
+        record {
+          before = h.ended.before;
+          answer = h.ended.last;
+          split = ap verdicts hello_heard ∙ grown.1 ∙ ap (λ l. l ++ grown.0) ((Follows-start _ _ _ _ stands h.follows).1 ∙ h.ended.is)
+              ∙ append_assoc h.ended.before (h.ended.last ∷ []) grown.0;
+          none_before = h.ended.none_before;
+          fits = h.ended.fits;
+        },
+      )
+
+  -- a call of the link failed at the clock
+  pub link_failed_later : (y : Option World) → Stops (request_frame request.Clock me node ∷ []) x y → Pinging me node w y (Err fault.LinkFault)
+  link_failed_later y s = record {
+    events = (Sent (request_frame request.Hello me node) ∷ h.heard) ++ s.events;
+    grows = GrowsBy-trans w x y (Sent (request_frame request.Hello me node) ∷ h.heard) s.events h.grows s.grows;
+    pings = inr (record {
+      first = h.heard;
+      later = s.events;
+      router = router;
+      metric = metric;
+      verify = verify;
+      rest = s.rest;
+      is = refl;
+      none_between = h.none_sent;
+      in_time = in_time;
+      frames_sent = s.frames_sent;
+    });
+  }
 
 -- ---- the hello, and then the clock
 
@@ -111,6 +132,7 @@ module _ (me node : ℕ) (start first second : Exchange) (w x y : Option World) 
     second = c.heard;
     behind = c.shown ++ more;
     hears = record { is = refl; none_between = h.none_sent; no_more_sent = c.none_sent };
+    in_time = in_time me node start first w x nothing stands router metric verify h;
     answered = record {
       before = h.ended.before;
       answer = h.ended.last;

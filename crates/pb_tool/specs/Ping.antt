@@ -1,5 +1,5 @@
 -- What `ping` sends, what it takes for an answer, and what its answers mean.
-use Rattle.std.specs.Prelude.{◌≡◌, ◌≢◌, ℕ, ◌≤◌, List, [], ◌∷◌, ◌++◌, length, Option, Result, Ok, Err}
+use Rattle.std.specs.Prelude.{◌≡◌, ◌≢◌, ◌⊎◌, ℕ, ◌≤◌, List, [], ◌∷◌, ◌++◌, length, Option, Result, Ok, Err}
 use Rattle.std.specs.List.{flat_map}
 use Rattle.pb_base.specs.World.{World, Event, Sent, Heard, Quiet, sent}
 use Rattle.pb_io.specs.Site.{GrowsBy}
@@ -114,6 +114,10 @@ pub record HelloAnswered (me node : ℕ) (router metric verify : ℕ) (all behin
   pub none_before : NoneFits request.Hello me node before
   pub fits : Fits request.Hello me node (reply.Hello router metric verify) answer
 
+-- the hello was answered within these events
+abbrev pub IsAnswered : (me node router metric verify : ℕ) → World → Type 0
+IsAnswered me node router metric verify heard = (behind : List Verdict) × HelloAnswered me node router metric verify (verdicts (bytes_heard heard)) behind
+
 -- the first behind it that fits the clock
 pub record ClockAnswered (me node : ℕ) (answer : Reply) (behind : List Verdict) : Type 0 where
   pub before : List Verdict
@@ -134,12 +138,14 @@ abbrev pub NoClock : ℕ → ℕ → Cause → World → List Verdict → Type 0
 NoClock me node (Refused c) heard behind = (c ≢ 0) × ((time : _) × ClockAnswered me node (reply.Clock c time) behind)
 NoClock me node cause heard behind = NoneFits request.Clock me node behind × Exhausts cause heard
 
--- the hello was answered, and then the clock was asked
+-- The hello was answered, and then the clock was asked. Behind the answer stand the frames of all events, also those
+-- that came before the clock was asked.
 pub record AsksClock (me node router metric verify : ℕ) (events : World) : Type 0 where
   pub first : World
   pub second : World
   pub behind : List Verdict
   pub hears : HearsClock me node events first second
+  pub in_time : IsAnswered me node router metric verify first
   pub answered : HelloAnswered me node router metric verify (verdicts (bytes_heard events)) behind
 
 -- the hello was sent, and nothing that fits was heard
@@ -149,13 +155,29 @@ pub record HelloFails (me node : ℕ) (cause : Cause) (events : World) : Type 0 
   pub none : NoneFits request.Hello me node (verdicts (bytes_heard events))
   pub limit : Exhausts cause heard
 
--- The events of the call, and its answer. Where a call of the link failed, the frames that were sent are the first of
--- the two requests.
+-- A call of the link failed at the hello: it was sent once or not at all.
+abbrev pub StopsAtHello : (me node : ℕ) → World → Type 0
+StopsAtHello me node events = (rest : List (List ℕ)) × (sent events ++ rest ≡ request_frame request.Hello me node ∷ [])
+
+-- It failed at the clock, behind an answered hello: the clock was sent once or not at all.
+pub record StopsAtClock (me node : ℕ) (events : World) : Type 0 where
+  pub first : World
+  pub later : World
+  pub router : ℕ
+  pub metric : ℕ
+  pub verify : ℕ
+  pub rest : List (List ℕ)
+  pub is : events ≡ (Sent (request_frame request.Hello me node) ∷ first) ++ later
+  pub none_between : sent first ≡ []
+  pub in_time : IsAnswered me node router metric verify first
+  pub frames_sent : sent later ++ rest ≡ request_frame request.Clock me node ∷ []
+
+-- the events of the call, and its answer
 abbrev pub Pings : ℕ → ℕ → World → Result Pinged PingFault → Type 0
 Pings me node events (Ok p) = (asks : AsksClock me node p.router p.metric p.verify events) × ClockAnswered me node (reply.Clock 0 p.time) asks.behind
 Pings me node events (Err (fault.Hello cause)) = HelloFails me node cause events
 Pings me node events (Err (fault.Clock cause router metric verify)) = (asks : AsksClock me node router metric verify events) × NoClock me node cause asks.second asks.behind
-Pings me node events (Err fault.LinkFault) = (rest : List (List ℕ)) × (sent events ++ rest ≡ request_frame request.Hello me node ∷ request_frame request.Clock me node ∷ [])
+Pings me node events (Err fault.LinkFault) = StopsAtHello me node events ⊎ StopsAtClock me node events
 
 -- the world grew by these events, which mean this answer
 pub record Pinging (me node : ℕ) (world_old world_new : Option World) (answer : Result Pinged PingFault) : Type 0 where

@@ -30,7 +30,8 @@ returns-then-resp-ne0-clause-pings g c =
 pub returns-in-Err-ask-clause-pings : goal.returns-in-Err-ask-clause-pings
 returns-in-Err-ask-clause-pings g c =
     let hello = asks_as (c.in-Ok-Reply-Hello.field-0-is ∙ ap asked.Reply c.in-Ok-Reply-Hello.field-0-0-is) c.in-Ok-Reply-Hello.ensures.asks in
-    link_failed_later c.args.me c.args.node c.new-exchange.result c.ask.new.self _ _ _ _ hello c.in-Err-ask.ensures.stops
+    link_failed_later c.args.me c.args.node c.new-exchange.result c.ask.new.self _ _ c.new-exchange.ensures.nothing c.new-exchange.ensures.stands
+    c.in-Ok-Reply-Hello.router c.in-Ok-Reply-Hello.metric c.in-Ok-Reply-Hello.verify hello _ c.in-Err-ask.ensures.stops
 
 pub returns-in-Ok-NoAnswer-ask-clause-pings : goal.returns-in-Ok-NoAnswer-ask-clause-pings
 returns-in-Ok-NoAnswer-ask-clause-pings g c =
