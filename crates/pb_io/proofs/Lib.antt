@@ -5,6 +5,7 @@ mod DiskLemmas
 mod MemSiteLemmas
 pub mod Moments
 pub mod SinkLemmas
+pub mod SendLemmas
 mod SourceLemmas
 mod TurnLemmas
 pub mod WorldLemmas

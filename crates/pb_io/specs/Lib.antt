@@ -8,6 +8,7 @@ pub mod DiskLog
 pub mod Faults
 pub mod InMemory
 pub mod Inbox
+pub mod Outside
 pub mod Settled
 pub mod Sink
 pub mod Site

@@ -25,3 +25,13 @@ Ticks before now result = MatchResult result (λ n. (n ≡ 0 → Rose before now
 -- the image stays, and the world is the one before with this frame sent once, or not at all
 abbrev pub SentOnce : List ℕ → Told → World → List ℕ → Type 0
 SentOnce frame old w c = old.image c × ((v more : World) × (old.link.world ≡ Some v) × (w ≡ v ++ more) × ((sent more ≡ []) ⊎ (sent more ≡ frame ∷ [])))
+
+-- the image stays, and the world is the one before with a front of these frames sent
+pub record SendsAtMost (frames : List (List ℕ)) (old : Told) (w : World) (c : List ℕ) : Type 0 where
+  pub image : old.image c
+  pub before : World
+  pub more : World
+  pub told : old.link.world ≡ Some before
+  pub is : w ≡ before ++ more
+  pub rest : List (List ℕ)
+  pub front : sent more ++ rest ≡ frames

@@ -5,7 +5,10 @@ use Rattle.std.proofs.lemmas.Bool.{cond-false, ne_eqb}
 use Rattle.std.proofs.lemmas.Grind.{flat_map-append}
 use Rattle.std.specs.List.{flat_map}
 use Rattle.pb_base.specs.World.{World, Sent, Quiet, all_heard, sent}
-use Rattle.pb_io.specs.Site.{GrowsBy}
+use Rattle.pb_io.specs.Disk.{Looks}
+use Rattle.pb_io.specs.Site.{GrowsBy, SendsAtMost}
+use Rattle.pb_io.specs.Told.{Told, IsLawful, Elapses, LeavesOnly}
+use Rattle.pb_io.proofs.SendLemmas.{Looks-refl, Looks-trans, sends_none, sends_on, sends_then}
 use Rattle.pb_io.proofs.WorldLemmas.{GrowsBy-nil, GrowsBy-trans, sent-heard}
 use Rattle.pb_frame.specs.Framing.{Verdict}
 use Rattle.pb_frame.specs.Hearing.{Hearing, Follows}
@@ -249,3 +252,32 @@ Stops-asking frame w x y g s = record {
   rest = s.rest;
   frames_sent = ap (λ l. frame ∷ l) s.frames_sent;
 }
+
+-- ---- what a crash may leave meanwhile
+
+pub sends_heard : {request : Request} {me node : ℕ} {first now : Exchange} {quiets heard n : ℕ} {bytes : List ℕ} (old mid new : Told)
+    → Listening request me node first now old.link.world mid.link.world quiets heard → Arrives n bytes mid.link.world new.link.world
+    → LeavesOnly old mid (SendsAtMost [] old) → Elapses mid new → Looks old new → LeavesOnly old new (SendsAtMost [] old)
+sends_heard old mid new l a so_far time looks =
+    sends_on [] [] old mid new (l.events ++ a.events) so_far time looks (GrowsBy-trans _ _ _ l.events a.events l.grows a.grows)
+    (append-nil (sent (l.events ++ a.events)) ∙ sent-append l.events a.events ∙ ap (λ s. s ++ sent a.events) l.none_sent ∙ a.none_sent)
+
+pub sends_stopped : {request : Request} {me node : ℕ} {first now : Exchange} {quiets heard : ℕ} (old mid new : Told)
+    → Listening request me node first now old.link.world mid.link.world quiets heard → GrowsBy mid.link.world new.link.world []
+    → LeavesOnly old mid (SendsAtMost [] old) → Elapses mid new → Looks old new → LeavesOnly old new (SendsAtMost [] old)
+sends_stopped old mid new l grows so_far time looks =
+    sends_on [] [] old mid new (l.events ++ []) so_far time looks (GrowsBy-trans _ _ _ l.events [] l.grows grows)
+    (append-nil (sent (l.events ++ [])) ∙ sent-append l.events [] ∙ append-nil (sent l.events) ∙ l.none_sent)
+
+pub sends_frame : (frame : List ℕ) (old mid : Told) → IsLawful old → Elapses old mid → Looks old mid → GrowsBy old.link.world mid.link.world (Sent frame ∷ []) → LeavesOnly old mid (SendsAtMost (frame ∷ []) old)
+sends_frame frame old mid lawful time looks grows = sends_on (frame ∷ []) [] old old mid (Sent frame ∷ []) (sends_none (frame ∷ []) old lawful) time looks grows refl
+
+pub sends_or_not : (frame other : List ℕ) (old mid : Told) → frame ≡ other → IsLawful old → Elapses old mid → Looks old mid → GrowsBy old.link.world mid.link.world (Sent frame ∷ []) ⊎ GrowsBy old.link.world mid.link.world []
+    → LeavesOnly old mid (SendsAtMost (other ∷ []) old)
+sends_or_not frame other old mid is lawful time looks (inl grows) = sends_frame other old mid lawful time looks (sent_frame is grows)
+sends_or_not frame other old mid is lawful time looks (inr grows) = sends_on (other ∷ []) (other ∷ []) old old mid [] (sends_none (other ∷ []) old lawful) time looks grows refl
+
+pub sends_asking : (frame : List ℕ) (old mid new : Told) → IsLawful old → Elapses old mid → Looks old mid → GrowsBy old.link.world mid.link.world (Sent frame ∷ []) → LeavesOnly mid new (SendsAtMost [] mid)
+    → LeavesOnly old new (SendsAtMost (frame ∷ []) old)
+sends_asking frame old mid new lawful time looks grows more =
+    sends_then (frame ∷ []) (frame ∷ []) [] old mid new (Sent frame ∷ []) (sends_frame frame old mid lawful time looks grows) looks grows refl refl more

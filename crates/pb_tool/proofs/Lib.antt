@@ -1,3 +1,4 @@
+mod CauseLemmas
 mod ExchangeLemmas
 mod HexLemmas
 mod JudgeLemmas

@@ -3,7 +3,10 @@ use Rattle.std.proofs.Common.{◌≡◌, ◌≢◌, ℕ, ◌≤◌, List, [], �
 use Rattle.std.proofs.lemmas.List.{append-nil}
 use Rattle.pb_base.specs.World.{World, Sent}
 use Rattle.pb_base.specs.declared.nsec.Nsec.{Nsec}
-use Rattle.pb_io.specs.Site.{GrowsBy}
+use Rattle.pb_io.specs.Disk.{Looks}
+use Rattle.pb_io.specs.Site.{GrowsBy, SendsAtMost}
+use Rattle.pb_io.specs.Told.{Told, LeavesOnly}
+use Rattle.pb_io.proofs.SendLemmas.{sends_less, sends_then}
 use Rattle.pb_io.proofs.WorldLemmas.{GrowsBy-trans}
 use Rattle.pb_frame.specs.Framing.{Verdict, verdicts}
 use Rattle.pb_frame.specs.Hearing.{StandsFor}
@@ -18,7 +21,7 @@ use Rattle.pb_tool.specs.declared.greeting.PingFault.TheVariants as fault
 use Rattle.pb_tool.specs.declared.exchange.Exchange.{Exchange}
 use Rattle.pb_tool.specs.declared.exchange.Asked.{Asked}
 use Rattle.pb_tool.specs.declared.exchange.Asked.TheVariants as asked
-use Rattle.pb_tool.specs.Ping.{NoneFits, bytes_heard, quiet_ticks, request_frame, ClockAnswered, IsAnswered, AsksClock, Exhausts, Pinging}
+use Rattle.pb_tool.specs.Ping.{NoneFits, bytes_heard, quiet_ticks, request_frame, ping_frames, ClockAnswered, IsAnswered, AsksClock, Exhausts, Pinging}
 use Rattle.pb_tool.specs.declared.status.Status.{Status}
 use Rattle.pb_tool.specs.PingText.{RanPing}
 use Rattle.pb_tool.specs.Judging.{EndsWith}
@@ -194,3 +197,15 @@ asks_as {request} {me} {node} {old} {new} {w} {x} is h = subst (λ (o : Asked). 
 pub RanPing-as : {a b me node : ℕ} {r : Status} {w x : Option World} {y z : Option (List ℕ)} → (a ≡ me) × (b ≡ node) → RanPing a b r w x y z → RanPing me node r w x y z
 RanPing-as {a} {b} {me} {node} {r} {w} {x} {y} {z} same ran =
     subst (λ (n : ℕ). RanPing me n r w x y z) same.1 (subst (λ (m : ℕ). RanPing m b r w x y z) same.0 ran)
+
+-- ---- what a crash may leave meanwhile
+
+pub hello_leaves : (me node : ℕ) (old new : Told) → LeavesOnly old new (SendsAtMost (request_frame request.Hello me node ∷ []) old) → LeavesOnly old new (SendsAtMost (ping_frames me node) old)
+hello_leaves me node old new leaves = sends_less (request_frame request.Hello me node ∷ []) (request_frame request.Clock me node ∷ []) old new leaves
+
+pub clock_leaves : (me node : ℕ) (old mid new : Told) (start first : Exchange) (a : Asked) → Asks request.Hello me node start old.link.world a first mid.link.world → Looks old mid
+    → LeavesOnly old mid (SendsAtMost (request_frame request.Hello me node ∷ []) old) → LeavesOnly mid new (SendsAtMost (request_frame request.Clock me node ∷ []) mid)
+    → LeavesOnly old new (SendsAtMost (ping_frames me node) old)
+clock_leaves me node old mid new start first a h looks one two =
+    sends_then (ping_frames me node) (request_frame request.Hello me node ∷ []) (request_frame request.Clock me node ∷ []) old mid new (Sent (request_frame request.Hello me node) ∷ h.heard)
+    (hello_leaves me node old mid one) looks h.grows (ap (λ l. request_frame request.Hello me node ∷ l) h.none_sent) refl two

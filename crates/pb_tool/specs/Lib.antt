@@ -1,3 +1,5 @@
+pub mod Causes
+pub mod Closing
 pub mod Exchange
 pub mod Hex
 pub mod Judging
@@ -6,7 +8,9 @@ pub mod Ping
 pub mod PingText
 pub mod Ran
 pub mod ShowText
+pub mod Showed
 pub mod Showing
 pub mod Status
 pub mod TimeText
+pub mod Uses
 pub mod Words

@@ -42,6 +42,10 @@ request_message request.Clock = bmp5_bytes (Clock 2 0 no_time)
 unfoldable pub request_frame : Request → ℕ → ℕ → List ℕ
 request_frame request me node = frame (packet_bytes (full (request_header request me node) (request_message request)))
 
+-- all that a ping sends
+abbrev pub ping_frames : ℕ → ℕ → List (List ℕ)
+ping_frames me node = request_frame request.Hello me node ∷ request_frame request.Clock me node ∷ []
+
 -- ---- what answers
 
 -- the content is a packet with this message, of this protocol, from the node to me

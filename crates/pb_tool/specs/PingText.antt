@@ -10,7 +10,7 @@ use Rattle.pb_tool.specs.declared.greeting.PingFault.TheVariants as fault
 use Rattle.pb_tool.specs.declared.status.Status.{Status}
 use Rattle.pb_tool.specs.declared.status.Status.TheVariants as status
 use Rattle.pb_tool.specs.Ping.{Pinging}
-use Rattle.pb_tool.specs.Ran.{Closes}
+use Rattle.pb_tool.specs.Closing.{Closes}
 use Rattle.pb_tool.specs.TimeText.{time_text}
 
 -- `hello NODE router B metric B verify H`

@@ -1,9 +1,9 @@
-ghost use Rattle.std.specs.Prelude.{◌≡◌, ◌≤◌, ℕ, map, string_bytes, codes};
-ghost use Rattle.pb_io.specs.Disk.{Looks};
-ghost use Rattle.pb_io.specs.Faults.{Rose};
-ghost use Rattle.pb_tool.specs.PingText.{RanPing};
-ghost use Rattle.pb_tool.specs.Ran.{Showed, Refused};
-ghost use Rattle.pb_tool.specs.Words.{IsShow, IsPing, IsListed};
+ghost use Rattle.std.specs.Prelude.{map, string_bytes};
+ghost use Rattle.pb_io.specs.Outside.{outside};
+ghost use Rattle.pb_tool.specs.Causes.{Causes};
+ghost use Rattle.pb_tool.specs.Ran.{Ran};
+ghost use Rattle.pb_tool.specs.Uses.{uses, Leaves, Left};
+ghost use Rattle.pb_tool.specs.Words.{Said};
 
 use crate::closing::close;
 use crate::words::{self, Command};
@@ -12,7 +12,7 @@ use pb_io::{Sink, Site, Source};
 use std::alloc::Global;
 
 /// Runs the command that `words` name, all words after the program's name, and answers how it ended. Its lines go to
-/// `out`, the closing ones too.
+/// `out`, the closing ones too. Words of no listed form do nothing but print their closing line.
 ///
 /// `show` reads `input` to its end, and `ping` greets a node over the link of `site`. Neither takes memory.
 pub fn run<S: Site, I: Source, O: Sink>(
@@ -22,32 +22,45 @@ pub fn run<S: Site, I: Source, O: Sink>(
     input: &mut I,
     out: &mut O,
 ) -> Status
-    // What `show` read and wrote, by the status; no other status comes.
-    ensures show { IsShow (map string_bytes words.now) → Showed result (I.left input.old) (I.left input.new) (O.written out.old) (O.written out.new) (Rose (I.read_faults input.old) (I.read_faults input.new)) }
+    // What the command did, by its status: each command has its row.
+    ensures ran { Said (map string_bytes words.now) (λ c. Ran c result
+        (outside S.Disk I.Source O.Sink site.old input.old out.old)
+        (outside S.Disk I.Source O.Sink site.new input.new out.new)) }
 
-    // What `ping` sent, heard and printed, by its answer; no other status comes.
-    ensures ping { (me node : ℕ) → IsPing me node (map string_bytes words.now) → RanPing me node result (S.told site.old).link.world (S.told site.new).link.world (O.written out.old) (O.written out.new) }
+    // What a crash at any moment of it may leave, with the world of that moment.
+    ensures left { Said (map string_bytes words.now) (λ c. Left c (S.told site.old) (S.told site.new)) }
 
-    // Words of no listed form do nothing. Their closing line is written, or a write failed.
-    ensures usage { ¬ IsListed (map string_bytes words.now) → Refused result (O.written out.old) (O.written out.new) }
+    // What it doesn't use is as it was.
+    ensures leaves { Said (map string_bytes words.now) (λ c.
+        Leaves S.Disk (uses c) site.old input.old site.new input.new) }
 
-    // `show` alone reads the input, and `ping` alone touches the site, of which it leaves the disk as it was.
-    ensures unread { ¬ IsShow (map string_bytes words.now) → input.new ≡ input.old }
-    ensures site { ((me node : ℕ) → ¬ IsPing me node (map string_bytes words.now)) → site.new ≡ site.old }
-    ensures disk { Looks (S.told site.old) (S.told site.new) }
-    ensures disk_faults { (S.told site.new).faults ≡ (S.told site.old).faults }
-
-    // A fault's status comes only where its count rose in this call.
-    ensures read_fault { result ≡ Status.ReadFault → Rose (I.read_faults input.old) (I.read_faults input.new) }
-    ensures write_fault { result ≡ Status.WriteFault → Rose (O.write_faults out.old) (O.write_faults out.new) }
-    ensures link_fault { result ≡ Status.LinkFault → Rose (S.told site.old).link.faults (S.told site.new).link.faults }
-    ensures reads { I.read_faults input.old ≤ I.read_faults input.new }
-    ensures writes { O.write_faults out.old ≤ O.write_faults out.new }
-    ensures links { (S.told site.old).link.faults ≤ (S.told site.new).link.faults }
+    // A fault's status comes only where its count rose in this call, and where a count rose the status tells of it.
+    ensures causes { Causes result
+        (outside S.Disk I.Source O.Sink site.old input.old out.old)
+        (outside S.Disk I.Source O.Sink site.new input.new out.new) }
 {
-    let Some(command) = words::parse(words) else {
-        return close(out, b"pakbus: usage\n", Status::Usage);
-    };
+    match words::parse(words) {
+        Some(command) => perform(command, site, input, out),
+        None => close(out, b"pakbus: usage\n", Status::Usage),
+    }
+}
+
+// Runs a command.
+fn perform<S: Site, I: Source, O: Sink>(
+    command: Command,
+    site: &mut S,
+    input: &mut I,
+    out: &mut O,
+) -> Status
+    ensures ran { Ran (Some command) result
+        (outside S.Disk I.Source O.Sink site.old input.old out.old)
+        (outside S.Disk I.Source O.Sink site.new input.new out.new) }
+    ensures left { Left (Some command) (S.told site.old) (S.told site.new) }
+    ensures leaves { Leaves S.Disk (uses (Some command)) site.old input.old site.new input.new }
+    ensures causes { Causes result
+        (outside S.Disk I.Source O.Sink site.old input.old out.old)
+        (outside S.Disk I.Source O.Sink site.new input.new out.new) }
+{
     match command {
         Command::Show => show::print(input, out),
         Command::Ping { me, node } => ping_lines::print(me, node, site, out),

@@ -2,6 +2,8 @@
 ghost use Rattle.std.specs.Prelude.{◌≡◌, ◌==◌, if◌then◌else◌, ℕ, ◌+◌, ◌^◌, ◌<◌, ◌≤◌, [], ◌∷◌, length, take, IfOk, OnErr};
 ghost use Rattle.pb_io.specs.Disk.{Looks};
 ghost use Rattle.pb_io.specs.Faults.{HasCause};
+ghost use Rattle.pb_io.specs.Site.{SendsAtMost};
+ghost use Rattle.pb_io.specs.Told.{LeavesOnly};
 ghost use Rattle.pb_frame.specs.Hearing.{StandsFor};
 ghost use Rattle.pb_tool.specs.Judging.{JudgesByte};
 ghost use Rattle.pb_tool.specs.Ping.{request_frame};
@@ -72,6 +74,7 @@ impl Exchange {
         ensures stops { OnErr result (Stops (request_frame request me node ∷ []) (S.told site.old).link.world (S.told site.new).link.world) }
         ensures disk { Looks (S.told site.old) (S.told site.new) }
         ensures disk_faults { (S.told site.new).faults ≡ (S.told site.old).faults }
+        ensures left { LeavesOnly (S.told site.old) (S.told site.new) (SendsAtMost (request_frame request me node ∷ []) (S.told site.old)) }
         ensures cause { HasCause (S.told site.old).link.faults (S.told site.new).link.faults result }
     {
         let mut frame = [0; FRAME_MAX];
@@ -98,6 +101,7 @@ impl Exchange {
         ensures stops { OnErr result (Stops [] (S.told site.old).link.world (S.told site.new).link.world) }
         ensures disk { Looks (S.told site.old) (S.told site.new) }
         ensures disk_faults { (S.told site.new).faults ≡ (S.told site.old).faults }
+        ensures left { LeavesOnly (S.told site.old) (S.told site.new) (SendsAtMost [] (S.told site.old)) }
         ensures cause { HasCause (S.told site.old).link.faults (S.told site.new).link.faults result }
     {
         let mut quiets = 0;

@@ -1,8 +1,10 @@
 //! `ping`: a hello to a node, and then a question for its time.
-ghost use Rattle.std.specs.Prelude.{◌≡◌, ◌≤◌, Err};
+ghost use Rattle.std.specs.Prelude.{◌≡◌, ◌<◌, ◌≤◌, Err};
 ghost use Rattle.pb_io.specs.Disk.{Looks};
 ghost use Rattle.pb_io.specs.Faults.{Rose};
-ghost use Rattle.pb_tool.specs.Ping.{Pinging};
+ghost use Rattle.pb_io.specs.Site.{SendsAtMost};
+ghost use Rattle.pb_io.specs.Told.{LeavesOnly};
+ghost use Rattle.pb_tool.specs.Ping.{ping_frames, Pinging};
 
 use crate::exchange::{Asked, Exchange};
 use pb_base::{NodeId, Nsec};
@@ -63,6 +65,8 @@ pub fn ping<S: Site>(site: &mut S, me: NodeId, node: NodeId) -> Result<Pinged, P
     ensures pings { Pinging me node (S.told site.old).link.world (S.told site.new).link.world result }
     ensures link_fault { result ≡ Err PingFault.LinkFault → Rose (S.told site.old).link.faults (S.told site.new).link.faults }
     ensures later { (S.told site.old).link.faults ≤ (S.told site.new).link.faults }
+    ensures link_told { (S.told site.old).link.faults < (S.told site.new).link.faults → result ≡ Err PingFault.LinkFault }
+    ensures left { LeavesOnly (S.told site.old) (S.told site.new) (SendsAtMost (ping_frames me node) (S.told site.old)) }
     ensures disk { Looks (S.told site.old) (S.told site.new) }
     ensures disk_faults { (S.told site.new).faults ≡ (S.told site.old).faults }
 {

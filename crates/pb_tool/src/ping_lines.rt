@@ -1,7 +1,10 @@
 //! The lines of `ping`.
 ghost use Rattle.std.specs.Prelude.{◌≡◌, ◌≢◌, ◌≤◌, ◌+◌, ◌++◌, length};
 ghost use Rattle.pb_io.specs.Disk.{Looks};
-ghost use Rattle.pb_io.specs.Faults.{Rose};
+ghost use Rattle.pb_io.specs.Site.{SendsAtMost};
+ghost use Rattle.pb_io.specs.Told.{LeavesOnly};
+ghost use Rattle.pb_tool.specs.Causes.{Counts};
+ghost use Rattle.pb_tool.specs.Ping.{ping_frames};
 ghost use Rattle.pb_tool.specs.PingText.{hello_text, clock_text, cause_text, no_hello_text, no_clock_text, ping_text, ping_status, RanPing};
 
 use crate::Status;
@@ -15,11 +18,11 @@ use pb_io::{Sink, Site};
 /// Pings a node, and prints what it answered.
 pub fn print<S: Site, O: Sink>(me: NodeId, node: NodeId, site: &mut S, out: &mut O) -> Status
     ensures ran { RanPing me node result (S.told site.old).link.world (S.told site.new).link.world (O.written out.old) (O.written out.new) }
-    ensures link_fault { result ≡ Status.LinkFault → Rose (S.told site.old).link.faults (S.told site.new).link.faults }
-    ensures write_fault { result ≡ Status.WriteFault → Rose (O.write_faults out.old) (O.write_faults out.new) }
-    ensures statuses { result ≢ Status.ReadFault }
-    ensures links { (S.told site.old).link.faults ≤ (S.told site.new).link.faults }
-    ensures writes { O.write_faults out.old ≤ O.write_faults out.new }
+    ensures links { Counts Status.LinkFault result (S.told site.old).link.faults (S.told site.new).link.faults }
+    ensures writes { Counts Status.WriteFault result (O.write_faults out.old) (O.write_faults out.new) }
+    ensures read_fault { result ≢ Status.ReadFault }
+    ensures disk_fault { result ≢ Status.DiskFault }
+    ensures left { LeavesOnly (S.told site.old) (S.told site.new) (SendsAtMost (ping_frames me node) (S.told site.old)) }
     ensures disk { Looks (S.told site.old) (S.told site.new) }
     ensures disk_faults { (S.told site.new).faults ≡ (S.told site.old).faults }
 {

@@ -11,5 +11,5 @@ pub loop-done-preserved : goal.loop-done-preserved
 loop-done-preserved g c = record {
   within = search rules;
   bytes = Appends-more _ _ _ _ _ _ c.loop-done.invariant.bytes (rw take_rest at c.in_ok-done.ensures.bytes);
-  later = omega (arith, c.write.ensures.cause.later);
+  kept = omega (arith, c.in_ok-done.ensures.cause.kept);
 }

@@ -3,7 +3,7 @@ use Rattle.pb_tool.specs.declared.exchange.Asked.TheVariants as asked
 use Rattle.pb_tool.specs.declared.greeting.Request.TheVariants as request
 use Rattle.pb_tool.specs.declared.greeting.Reply.TheVariants as reply
 use Rattle.pb_tool.specs.Judging.{EndsWith}
-use Rattle.pb_tool.proofs.PingLemmas.{hello_no_answer, hello_flooded, link_failed, link_failed_later, clock_answered, clock_refused, clock_no_answer, clock_flooded, asks_as}
+use Rattle.pb_tool.proofs.PingLemmas.{hello_no_answer, hello_flooded, link_failed, link_failed_later, clock_answered, clock_refused, clock_no_answer, clock_flooded, asks_as, hello_leaves, clock_leaves}
 use Rattle.pb_tool.proofs.greeting.ping.Goals as goal
 
 pub returns-in-Err-clause-pings : goal.returns-in-Err-clause-pings
@@ -54,3 +54,27 @@ returns-else-resp-ne0-clause-pings g c =
     clock_answered c.args.me c.args.node c.new-exchange.result c.ask.new.self c.ask-2.new.self _ _ _ c.new-exchange.ensures.nothing c.new-exchange.ensures.stands
     c.in-Ok-Reply-Hello.router c.in-Ok-Reply-Hello.metric c.in-Ok-Reply-Hello.verify _ hello clock
     c.in-Ok-Reply-Clock-ask.time (subst (λ (resp : ℕ). EndsWith request.Clock c.args.me c.args.node (reply.Clock resp c.in-Ok-Reply-Clock-ask.time) clock.shown) c.if-resp-ne0.false clock.ended)
+
+pub returns-in-Err-clause-left : goal.returns-in-Err-clause-left
+returns-in-Err-clause-left g c = hello_leaves c.args.me c.args.node _ _ c.ask.ensures.left
+
+pub returns-in-Ok-NoAnswer-clause-left : goal.returns-in-Ok-NoAnswer-clause-left
+returns-in-Ok-NoAnswer-clause-left g c = hello_leaves c.args.me c.args.node _ _ c.ask.ensures.left
+
+pub returns-in-Ok-Flooded-clause-left : goal.returns-in-Ok-Flooded-clause-left
+returns-in-Ok-Flooded-clause-left g c = hello_leaves c.args.me c.args.node _ _ c.ask.ensures.left
+
+pub returns-then-resp-ne0-clause-left : goal.returns-then-resp-ne0-clause-left
+returns-then-resp-ne0-clause-left g c = clock_leaves c.args.me c.args.node _ _ _ _ _ _ c.in-Ok-Reply-Hello.ensures.asks c.ask.ensures.disk c.ask.ensures.left c.ask-2.ensures.left
+
+pub returns-in-Err-ask-clause-left : goal.returns-in-Err-ask-clause-left
+returns-in-Err-ask-clause-left g c = clock_leaves c.args.me c.args.node _ _ _ _ _ _ c.in-Ok-Reply-Hello.ensures.asks c.ask.ensures.disk c.ask.ensures.left c.ask-2.ensures.left
+
+pub returns-in-Ok-NoAnswer-ask-clause-left : goal.returns-in-Ok-NoAnswer-ask-clause-left
+returns-in-Ok-NoAnswer-ask-clause-left g c = clock_leaves c.args.me c.args.node _ _ _ _ _ _ c.in-Ok-Reply-Hello.ensures.asks c.ask.ensures.disk c.ask.ensures.left c.ask-2.ensures.left
+
+pub returns-in-Ok-Flooded-ask-clause-left : goal.returns-in-Ok-Flooded-ask-clause-left
+returns-in-Ok-Flooded-ask-clause-left g c = clock_leaves c.args.me c.args.node _ _ _ _ _ _ c.in-Ok-Reply-Hello.ensures.asks c.ask.ensures.disk c.ask.ensures.left c.ask-2.ensures.left
+
+pub returns-else-resp-ne0-clause-left : goal.returns-else-resp-ne0-clause-left
+returns-else-resp-ne0-clause-left g c = clock_leaves c.args.me c.args.node _ _ _ _ _ _ c.in-Ok-Reply-Hello.ensures.asks c.ask.ensures.disk c.ask.ensures.left c.ask-2.ensures.left

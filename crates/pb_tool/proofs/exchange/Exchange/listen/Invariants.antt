@@ -1,5 +1,7 @@
-use Rattle.std.proofs.Common.{◌≡◌, ◌≤◌, ◌+◌, ◌-◌}
+use Rattle.std.proofs.Common.{◌≡◌, ◌≤◌, ◌+◌, ◌-◌, []}
 use Rattle.pb_io.specs.Disk.{Looks}
+use Rattle.pb_io.specs.Site.{SendsAtMost}
+use Rattle.pb_io.specs.Told.{LeavesOnly}
 use Rattle.pb_tool.proofs.ExchangeLemmas.{Listening}
 use Rattle.pb_tool.proofs.exchange.Exchange.listen.Given as goal
 
@@ -10,7 +12,8 @@ invariant-loop-quiets g l = record {
   ticks : l.quiets ≤ 5;
   disk : Looks (g.S.Disk.told l.fn.site) (g.S.Disk.told l.site);
   disk_faults : (g.S.Disk.told l.site).faults ≡ (g.S.Disk.told l.fn.site).faults;
-  later : (g.S.Disk.told l.fn.site).link.faults ≤ (g.S.Disk.told l.site).link.faults;
+  kept : (g.S.Disk.told l.site).link.faults ≡ (g.S.Disk.told l.fn.site).link.faults;
+  leaves : LeavesOnly (g.S.Disk.told l.fn.site) (g.S.Disk.told l.site) (SendsAtMost [] (g.S.Disk.told l.fn.site));
 }
 
 abbrev pub decreases-loop-quiets : goal.decreases-loop-quiets

@@ -1,0 +1,36 @@
+-- Which parts of the outside a command may touch, and what it leaves of them.
+use Rattle.std.specs.Prelude.{◌≡◌, [], Bool, true, false, ◌||◌, Option, Some, None}
+use Rattle.std.specs.Bool.{OnFalse}
+use Rattle.pb_io.specs.Disk.{Looks}
+use Rattle.pb_io.specs.Site.{SendsAtMost}
+use Rattle.pb_io.specs.Told.{Told, LeavesOnly}
+use Rattle.pb_io.specs.declared.disk.Disk as disk
+use Rattle.pb_tool.specs.declared.words.Command.{Command}
+use Rattle.pb_tool.specs.declared.words.Command.TheVariants.{Show, Ping}
+use Rattle.pb_tool.specs.Ping.{ping_frames}
+
+pub record Uses : Type 0 where
+  pub input : Bool
+  pub disk : Bool
+  pub link : Bool
+
+-- one row a command; words of no listed form touch nothing
+abbrev pub uses : Option Command → Uses
+uses None = record { input = false; disk = false; link = false }
+uses (Some Show) = record { input = true; disk = false; link = false }
+uses (Some (Ping me node)) = record { input = false; disk = false; link = true }
+
+-- What the command doesn't use is as it was.
+pub record Leaves {S I : Type 0} (d : disk.Ghosts S) (u : Uses) (site_old : S) (input_old : I) (site_new : S) (input_new : I) : Type 0 where
+  pub input : OnFalse u.input (input_new ≡ input_old)
+  pub site : OnFalse (u.disk || u.link) (site_new ≡ site_old)
+  pub disk : OnFalse u.disk (Looks (d.told site_old) (d.told site_new))
+  pub disk_faults : OnFalse u.disk ((d.told site_new).faults ≡ (d.told site_old).faults)
+  pub link : OnFalse u.link ((d.told site_new).link ≡ (d.told site_old).link)
+
+-- What a crash at some moment of the command may leave, with the world of that moment. Where no row says otherwise it
+-- is an image at entry, and the world at entry with a front of these frames sent.
+abbrev pub Left : Option Command → Told → Told → Type 0
+Left None old new = LeavesOnly old new (SendsAtMost [] old)
+Left (Some Show) old new = LeavesOnly old new (SendsAtMost [] old)
+Left (Some (Ping me node)) old new = LeavesOnly old new (SendsAtMost (ping_frames me node) old)
