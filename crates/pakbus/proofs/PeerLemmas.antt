@@ -1,12 +1,12 @@
 -- The last colon of a word cuts a peer's host from its port.
-use Rattle.std.proofs.Common.{◌≡◌, ◌≢◌, ℕ, ◌<◌, List, [], ◌∷◌, ◌++◌, length, get_or, take, drop, ◌==◌, ◌^◌, refl, sym, subst, ap, ◌∙◌, arith}
+use Rattle.std.proofs.Common.{Option, None, Some, MatchOption, Bor, inl, ⊎_elim, ◌≡◌, ◌≢◌, ℕ, ◌<◌, List, [], ◌∷◌, ◌++◌, length, get_or, take, drop, ◌==◌, ◌^◌, refl, sym, subst, ap, ◌∙◌, arith}
 use Rattle.std.proofs.lemmas.List.{take-append-drop, get_or_at, length-append}
 use Rattle.std.proofs.lemmas.Str.Parse.{digit_at}
 use Rattle.std.proofs.lemmas.Str.Pattern.{NoCharPasses-char, drop_at_char}
 use Rattle.std.specs.Str.{NoCharPasses}
 use Rattle.std.specs.Str.Parse.{AllDigits}
 use Rattle.std.specs.Str.Pattern.{RFindsChar, SplitsAroundMatch}
-use Rattle.pakbus.specs.Peer.{IsPeer, IsPort}
+use Rattle.pakbus.specs.Peer.{IsPeer, IsPort, IsHost}
 
 -- no c stands in the list
 abbrev Lacks : ℕ → List ℕ → Type 0
@@ -38,14 +38,30 @@ last_cut c s front back small cut = (
 )
 
 -- a port is cut off by the last colon
-pub cut_peer : (word host back other : List ℕ) (port : ℕ) → (word ≡ other ++ (58 ∷ back)) × Lacks 58 back → (p : IsPeer word host port) → (other ≡ host) × (back ≡ p.digits)
-cut_peer word host back other port cut p = one_cut 58 other back host p.digits (sym cut.0 ∙ p.form) cut.1 (digits_lack_colon p.digits p.tells.decimal.1)
+pub cut_peer : (word host back other : List ℕ) (port : ℕ) → (word ≡ other ++ (58 ∷ back)) × Lacks 58 back → (p : IsPeer word host port) → (other ≡ p.text) × (back ≡ p.digits)
+cut_peer word host back other port cut p = one_cut 58 other back p.text p.digits (sym cut.0 ∙ p.form) cut.1 (digits_lack_colon p.digits p.port_is.decimal.1)
 
 -- a word without a colon names no peer
 pub no_colon : (word host : List ℕ) (port : ℕ) → NoCharPasses (λ d. d == 58) word → IsPeer word host port → ⊥
-no_colon word host port none p = behind 58 word host p.digits p.form (λ i below. NoCharPasses-char 58 word i none (omega arith) below)
+no_colon word host port none p = behind 58 word p.text p.digits p.form (λ i below. NoCharPasses-char 58 word i none (omega arith) below)
 
 -- a port that no digits write isn't that of a peer
 pub no_port : (word host back other : List ℕ) (port : ℕ) → (word ≡ other ++ (58 ∷ back)) × Lacks 58 back → ((n : ℕ) → n < 2 ^ 16 → ¬ IsPort back n) → port < 2 ^ 16 → IsPeer word host port → ⊥
 no_port word host back other port cut none small p =
-    let P : List ℕ → Type 0 = λ digits. IsPort digits port in none port small (subst P (sym (cut_peer word host back other port cut p).1) p.tells)
+    let P : List ℕ → Type 0 = λ digits. IsPort digits port in none port small (subst P (sym (cut_peer word host back other port cut p).1) p.port_is)
+
+-- nor is a text that names no host
+pub no_host : (word host back other : List ℕ) (port : ℕ) → (word ≡ other ++ (58 ∷ back)) × Lacks 58 back → ((h : List ℕ) → 0 < length h → ¬ IsHost other h) → IsPeer word host port → ⊥
+no_host word host back other port cut none p =
+    let P : List ℕ → Type 0 = λ text. IsHost text host in none host p.some_host (subst P (sym (cut_peer word host back other port cut p).0) p.host_is)
+
+-- what stands in brackets is the host, unless it is empty
+pub bracketed : (text rest host : List ℕ) (r : Option (Bor (List ℕ))) → text ≡ 91 ∷ rest → rest ≡ host ++ (93 ∷ [])
+    → MatchOption r (length host ≡ 0) (λ same. (same.now ≡ host) × (0 < length host))
+    → MatchOption r ((h : List ℕ) → 0 < length h → ¬ IsHost text h) (λ h. IsHost text h.now × (0 < length h.now))
+bracketed text rest host None opens closes none = λ h some is. ⊎_elim
+    (λ (whole : text ≡ 91 ∷ (h ++ (93 ∷ []))). let same : host ++ (93 ∷ []) ≡ h ++ (93 ∷ []) = sym closes ∙ ap (drop 1) (sym opens ∙ whole) in
+    omega (arith, ap length same, length-append host (93 ∷ []), length-append h (93 ∷ []), none, some))
+    (λ plain. plain.0 rest opens) is
+bracketed text rest host (Some same) opens closes (is, some) =
+    (inl (opens ∙ ap (λ l. 91 ∷ l) (closes ∙ ap (λ l. l ++ (93 ∷ [])) (sym is))), omega (arith, ap length is, some))

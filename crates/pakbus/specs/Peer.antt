@@ -1,5 +1,5 @@
 -- The word that names a peer.
-use Rattle.std.specs.Prelude.{◌≡◌, ◌≢◌, ℕ, ◌<◌, List, ◌∷◌, ◌++◌, length, slice_index, codes}
+use Rattle.std.specs.Prelude.{◌≡◌, ◌≢◌, ◌⊎◌, ℕ, ◌<◌, List, [], ◌∷◌, ◌++◌, length, slice_index, codes}
 use Rattle.std.specs.Str.Parse.{IsNumeral, digits_value}
 
 -- the digits write this port, in decimal and without a leading zero
@@ -8,10 +8,16 @@ pub record IsPort (digits : List ℕ) (port : ℕ) : Type 0 where
   pub no_zero : slice_index digits 0 ≢ 48
   pub value : digits_value 10 digits ≡ port
 
+-- the text of a host: in brackets, as an address with colons is written, or as it is
+abbrev pub IsHost : List ℕ → List ℕ → Type 0
+IsHost text host = (text ≡ 91 ∷ (host ++ 93 ∷ [])) ⊎ (((rest : List ℕ) → text ≢ 91 ∷ rest) × (text ≡ host))
+
 -- the word is `HOST:PORT`, and the host isn't empty and isn't `listen`
 pub record IsPeer (word host : List ℕ) (port : ℕ) : Type 0 where
+  pub text : List ℕ
   pub digits : List ℕ
-  pub form : word ≡ host ++ (58 ∷ digits)
-  pub tells : IsPort digits port
+  pub form : word ≡ text ++ (58 ∷ digits)
+  pub port_is : IsPort digits port
+  pub host_is : IsHost text host
   pub some_host : 0 < length host
-  pub not_listen : host ≢ codes "listen"
+  pub not_listen : text ≢ codes "listen"

@@ -1,8 +1,9 @@
-ghost use Rattle.std.specs.Prelude.{◌≡◌, ◌≤◌, MatchResult, IsErr};
+//! Counts of failed calls.
+ghost use Rattle.std.specs.Prelude.{◌≡◌, ◌≤◌, MatchResult, IsErr, IsTrue, is_err, true};
 ghost use Rattle.pb_io.specs.Faults.{HasCause, Rose};
 
 use pb_io::Failed;
-use std::io;
+use std::io::{self, ErrorKind};
 
 /// The result of a call to the host; a failure is counted.
 pub fn counted<T>(faults: &mut u64, outcome: io::Result<T>) -> Result<T, Failed>
@@ -22,4 +23,14 @@ pub fn refused(faults: &mut u64) -> Failed
 {
     *faults = faults.saturating_add(1);
     Failed
+}
+
+/// Whether a call failed with an error of this kind.
+pub fn failed_as<T>(outcome: &io::Result<T>, kind: ErrorKind) -> bool
+    ensures { IsTrue result → is_err outcome.now ≡ true }
+{
+    match outcome {
+        Ok(_) => false,
+        Err(error) => error.kind() == kind,
+    }
 }

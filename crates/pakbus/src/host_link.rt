@@ -1,15 +1,17 @@
-ghost use Rattle.std.specs.Prelude.{◌≤◌, length, IfOk};
+//! The TCP stream to the peer.
+ghost use Rattle.std.specs.Prelude.{◌≡◌, ◌≤◌, ◌*◌, ◌-◌, ◌/◌, length, max, IfOk};
+ghost use Rattle.std.specs.Duration.{as_nanos};
 
 use crate::host_source::read_on;
 use crate::peer::host_and_port;
-use std::io::{self, ErrorKind, Write};
-use std::net::{Net, OpenStream, TcpStream, ToSocketAddrs};
+use std::io::{self, ErrorKind, Read, Write};
+use std::net::{Net, OpenStream, SocketAddr, TcpStream, ToSocketAddrs};
 use std::os::fd::AsRawFd;
-use std::time::Duration;
+use std::time::{Clock, Duration, Instant};
 
-/// How long a host may take to be reached, in milliseconds, over all of its addresses together. The look-up of its
-/// name comes before and has the resolver's own limits.
-const CONNECT_MILLIS: u64 = 10_000;
+/// How long a host may take to be reached, in seconds, over all of its addresses together. The look-up of its name
+/// comes before and has the resolver's own limits.
+const CONNECT_SECONDS: u64 = 10;
 
 /// How long one write may wait, in seconds.
 const WRITE_SECONDS: u64 = 10;
@@ -19,24 +21,25 @@ const TICK_SECONDS: u64 = 1;
 
 /// The TCP stream to the peer that a word names. It is opened when it is first needed.
 #[derive(Drop)]
-pub struct HostLink<'a, N: Net> {
-    net: &'a N,
+pub struct HostLink<'a, H: Net> {
+    host: &'a H,
     peer: &'a str,
-    stream: Stream<N::Stream>,
+    stream: Stream<H::Stream>,
 }
 
+/// The stream to a peer.
 #[derive(Drop)]
-enum Stream<S: Drop> {
+pub enum Stream<S: Drop> {
     Unopened,
     Open(S),
-    // It couldn't be opened, and isn't tried again.
+    /// It couldn't be opened, and isn't tried again.
     Unreachable,
 }
 
-impl<'a, N: Net> HostLink<'a, N> {
-    pub fn new(net: &'a N, peer: &'a str) -> Self {
+impl<'a, H: Net + Clock> HostLink<'a, H> {
+    pub fn new(host: &'a H, peer: &'a str) -> Self {
         HostLink {
-            net,
+            host,
             peer,
             stream: Stream::Unopened,
         }
@@ -45,10 +48,7 @@ impl<'a, N: Net> HostLink<'a, N> {
     /// Writes the whole frame.
     pub fn send(&mut self, frame: &[u8]) -> io::Result<()> {
         self.open();
-        match &mut self.stream {
-            Stream::Open(stream) => stream.write_all(frame),
-            _ => Err(io::Error::from(ErrorKind::NotConnected)),
-        }
+        self.stream.send(frame)
     }
 
     /// Reads into the front of `to`, which isn't empty, and answers how many bytes came; 0 for a quiet tick. The end
@@ -57,19 +57,12 @@ impl<'a, N: Net> HostLink<'a, N> {
         ensures { IfOk result (λ n. n ≤ length to.old) }
     {
         self.open();
-        let Stream::Open(stream) = &mut self.stream else {
-            return Err(io::Error::from(ErrorKind::NotConnected));
-        };
-        match read_on(stream, to) {
-            Ok(0) => Err(io::Error::from(ErrorKind::UnexpectedEof)),
-            Err(error) if is_timeout(error.kind()) => Ok(0),
-            result => result,
-        }
+        self.stream.recv(to)
     }
 
     fn open(&mut self) {
         if let Stream::Unopened = self.stream {
-            self.stream = match connected(self.net, self.peer) {
+            self.stream = match connected(self.host, self.peer) {
                 Ok(stream) => Stream::Open(stream),
                 Err(_) => Stream::Unreachable,
             };
@@ -77,24 +70,59 @@ impl<'a, N: Net> HostLink<'a, N> {
     }
 }
 
-// Which of the two a read that waited too long gives is the system's choice. A connection that the system gave up
-// may be told as the second; the next read then finds its end.
-fn is_timeout(kind: ErrorKind) -> bool {
-    matches!(kind, ErrorKind::WouldBlock | ErrorKind::TimedOut)
-}
-
-// A stream to the first address of the peer that takes it. They are tried once each, in the resolver's order, and
-// share the time evenly, so that one that stays silent leaves time for those behind it.
-fn connected<N: Net>(net: &N, peer: &str) -> io::Result<N::Stream> {
-    let invalid = io::Error::from(ErrorKind::InvalidInput);
-    let addresses = host_and_port(peer).ok_or(invalid)?.to_socket_addrs(net)?;
-    let share = Duration::from_millis(CONNECT_MILLIS / (addresses.len() as u64).max(1));
-    for address in addresses {
-        if let Ok(stream) = TcpStream::connect_timeout(net, &address, share) {
-            return prepared(stream);
+impl<S: Read + Write + Drop> Stream<S> {
+    fn send(&mut self, frame: &[u8]) -> io::Result<()> {
+        match self {
+            Stream::Open(stream) => stream.write_all(frame),
+            _ => Err(io::Error::from(ErrorKind::NotConnected)),
         }
     }
+
+    // A read that waited for the length of a tick would block. A connection that timed out is an error.
+    fn recv(&mut self, to: &mut [u8]) -> io::Result<usize>
+        ensures { IfOk result (λ n. n ≤ length to.old) }
+    {
+        let Stream::Open(stream) = self else {
+            return Err(io::Error::from(ErrorKind::NotConnected));
+        };
+        match read_on(stream, to) {
+            Ok(0) => Err(io::Error::from(ErrorKind::UnexpectedEof)),
+            Err(error) if error.kind() == ErrorKind::WouldBlock => Ok(0),
+            result => result,
+        }
+    }
+}
+
+// A stream to the first address of the peer that takes it. They are tried once each, in the resolver's order.
+fn connected<H: Net + Clock>(host: &H, peer: &str) -> io::Result<H::Stream> {
+    let invalid = io::Error::from(ErrorKind::InvalidInput);
+    let addresses = host_and_port(peer).ok_or(invalid)?.to_socket_addrs(host)?;
+    let start = Instant::now(host)?;
+    let mut untried = u32::try_from(addresses.len()).unwrap_or(u32::MAX);
+    for address in addresses {
+        let share = share_of(start.elapsed(host)?, untried);
+        if let Ok(stream) = connected_within(host, &address, share) {
+            return Ok(stream);
+        }
+        untried = untried.saturating_sub(1);
+    }
     Err(io::Error::from(ErrorKind::NotConnected))
+}
+
+// How long the next address may take after some time has passed: the time that remains, shared evenly by the
+// addresses that weren't tried.
+fn share_of(passed: Duration, untried: u32) -> Duration
+    ensures { as_nanos result ≡ (CONNECT_SECONDS * 1000000000 - as_nanos passed) / max untried 1 }
+{
+    Duration::from_secs(CONNECT_SECONDS).saturating_sub(passed) / untried.max(1)
+}
+
+fn connected_within<H: Net>(
+    host: &H,
+    address: &SocketAddr,
+    share: Duration,
+) -> io::Result<H::Stream> {
+    prepared(TcpStream::connect_timeout(host, address, share)?)
 }
 
 // Where a standard stream was closed, a new stream gets its number, and what is printed would go to the peer: such a
@@ -109,3 +137,6 @@ fn prepared<S: OpenStream + AsRawFd + Drop>(opened: S) -> io::Result<S> {
     stream.set_write_timeout(Some(Duration::from_secs(WRITE_SECONDS)))?;
     Ok(stream)
 }
+
+#[cfg(test)]
+mod tests;

@@ -1,16 +1,20 @@
 //! `pakbus`: collects the records of dataloggers over PakBus. Here the real source, sink and site are made.
 #![tactic(auto)]
 
+ghost use Rattle.std.specs.Prelude.{◌≡◌, [], map, get_or, string_bytes};
+
 mod fault_count;
 mod host_link;
 mod host_sink;
 mod host_site;
 mod host_source;
 mod peer;
+mod waiting;
 
 use crate::host_sink::HostSink;
 use crate::host_site::HostSite;
 use crate::host_source::HostSource;
+use crate::waiting::Waiting;
 use std::env;
 use std::io::{self, ErrorKind};
 use std::process::ExitCode;
@@ -23,13 +27,21 @@ fn main(rt: HostRuntime) -> ExitCode {
         Err(error) if error.kind() == ErrorKind::InvalidData => Vec::new(rt.alloc()),
         Err(_) => return ExitCode::from(pb_tool::Status::Memory.code()),
     };
-    // Without a second word there is no peer.
-    let peer = words.get(1).map_or("", |word| word.as_str());
-    let mut site = HostSite::new(&rt, peer);
-    let mut input = HostSource::new(rt.stdin());
-    let mut out = HostSink::new(rt.stdout());
+    let mut site = HostSite::new(&rt, peer_of(&words));
+    let mut input = HostSource::new(Waiting::new(&rt, rt.stdin()));
+    let mut out = HostSink::new(Waiting::new(&rt, rt.stdout()));
     let status = pb_tool::run(rt.alloc(), &words, &mut site, &mut input, &mut out);
     ExitCode::from(status.code())
+}
+
+// The second word names the peer. Without one there is no peer.
+fn peer_of(words: &[String]) -> &str
+    ensures { result.now ≡ get_or (map string_bytes words.now) 1 [] }
+{
+    match words.get(1) {
+        Some(word) => word.as_str(),
+        None => "",
+    }
 }
 
 // All words after the program's name.

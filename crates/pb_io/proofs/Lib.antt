@@ -1,5 +1,4 @@
 mod ChangeLogLemmas
-mod CopyLemmas
 pub mod CrashLemmas
 mod DiskLemmas
 mod MemSiteLemmas
@@ -7,5 +6,4 @@ pub mod Moments
 pub mod SinkLemmas
 pub mod SendLemmas
 mod SourceLemmas
-mod TurnLemmas
 pub mod WorldLemmas

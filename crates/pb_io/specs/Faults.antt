@@ -1,6 +1,10 @@
 -- Counts of faults: they never fall, and a call fails only where its count rose.
 use Rattle.std.specs.Prelude.{◌≡◌, ℕ, ◌+◌, ◌-◌, ◌^◌, ◌≤◌, min, Result, OnOk, OnErr}
 
+-- a count that goes up by one, and stands still at its type's end
+abbrev pub counted : ℕ → ℕ
+counted n = min (n + 1) (2 ^ 64 - 1)
+
 -- The count rose. At its type's end it stands still: there it is read as risen by any number.
 abbrev pub Rose : ℕ → ℕ → Type 0
 Rose before now = min (before + 1) (2 ^ 64 - 1) ≤ now

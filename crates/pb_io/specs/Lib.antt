@@ -1,6 +1,5 @@
 pub mod Calls
 pub mod ChangeLog
-pub mod Copy
 pub mod Crash
 pub mod Disk
 pub mod DiskLaws
@@ -13,4 +12,4 @@ pub mod Settled
 pub mod Sink
 pub mod Site
 pub mod Source
-pub mod Told
+pub mod View

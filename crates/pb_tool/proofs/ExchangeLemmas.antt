@@ -5,10 +5,10 @@ use Rattle.std.proofs.lemmas.Bool.{cond-false, ne_eqb}
 use Rattle.std.proofs.lemmas.Grind.{flat_map-append}
 use Rattle.std.specs.List.{flat_map}
 use Rattle.pb_base.specs.World.{World, Sent, Quiet, all_heard, sent}
-use Rattle.pb_io.specs.Disk.{Looks}
+use Rattle.pb_io.specs.Disk.{ReadsOnly}
 use Rattle.pb_io.specs.Site.{GrowsBy, SendsAtMost}
-use Rattle.pb_io.specs.Told.{Told, IsLawful, Elapses, LeavesOnly}
-use Rattle.pb_io.proofs.SendLemmas.{Looks-refl, Looks-trans, sends_none, sends_on, sends_then}
+use Rattle.pb_io.specs.View.{View, IsLawful, Elapses, LeavesOnly}
+use Rattle.pb_io.proofs.SendLemmas.{ReadsOnly-refl, ReadsOnly-trans, sends_none, sends_on, sends_then}
 use Rattle.pb_io.proofs.WorldLemmas.{GrowsBy-nil, GrowsBy-trans, sent-heard}
 use Rattle.pb_frame.specs.Framing.{Verdict}
 use Rattle.pb_frame.specs.Hearing.{Hearing, Follows}
@@ -19,7 +19,7 @@ use Rattle.pb_tool.specs.declared.exchange.Exchange.{Exchange}
 use Rattle.pb_tool.specs.declared.exchange.Asked.{Asked}
 use Rattle.pb_tool.specs.declared.exchange.Asked.TheVariants as asked
 use Rattle.pb_tool.specs.Ping.{NoneFits, bytes_in, ticks_in, bytes_heard, quiet_ticks, request_frame}
-use Rattle.pb_tool.specs.Exchange.{left, Judges, Outcome, Listens, Asks, Stops}
+use Rattle.pb_tool.specs.Exchange.{waiting, Judges, Outcome, Listens, Asks, Stops}
 use Rattle.pb_tool.proofs.JudgeLemmas.{NoneFits-append, EndsWith-after}
 
 -- ---- events
@@ -93,12 +93,12 @@ pub record Listening (request : Request) (me node : ℕ) (old now : Exchange) (w
   pub shown : List Verdict
   pub follows : Follows old.unframer (bytes_heard events) shown now.unframer
   pub none : NoneFits request me node shown
-  pub nothing_left : left now ≡ []
+  pub nothing_left : waiting now ≡ []
   pub quiets_are : quiets ≡ quiet_ticks events
   pub heard_are : heard ≡ length (bytes_heard events)
   pub count : now.unframer.count ≡ old.unframer.count + heard
 
-pub Listening-start : (request : Request) (me node : ℕ) (old : Exchange) (w : Option World) → left old ≡ [] → Listening request me node old old w w 0 0
+pub Listening-start : (request : Request) (me node : ℕ) (old : Exchange) (w : Option World) → waiting old ≡ [] → Listening request me node old old w w 0 0
 Listening-start request me node old w nothing = record {
   events = [];
   grows = GrowsBy-nil w;
@@ -117,10 +117,10 @@ all_pushed : (bytes pushed rest : List ℕ) → bytes ≡ pushed ++ rest → res
 all_pushed bytes pushed rest is none = sym (is ∙ ap (λ l. pushed ++ l) none ∙ append-nil pushed)
 
 pub Listening-more : (request : Request) (me node : ℕ) (old mid now new : Exchange) (w x y : Option World) (quiets heard n : ℕ) (bytes : List ℕ) → Listening request me node old mid w x quiets heard
-    → Arrives n bytes x y → length bytes ≡ n → now.unframer ≡ mid.unframer → left now ≡ bytes → Judges request me node now None new
+    → Arrives n bytes x y → length bytes ≡ n → now.unframer ≡ mid.unframer → waiting now ≡ bytes → Judges request me node now None new
     → Listening request me node old new w y (quiets + cond (eqb n 0) 1 0) (heard + n)
 Listening-more request me node old mid now new w x y quiets heard n bytes l a size same at_hand j =
-    let pushed = all_pushed bytes j.pushed (left new) (sym at_hand ∙ j.split) j.outcome.0 in
+    let pushed = all_pushed bytes j.pushed (waiting new) (sym at_hand ∙ j.split) j.outcome.0 in
     let more : Follows mid.unframer bytes j.shown new.unframer =
     subst (λ p. Follows mid.unframer p j.shown new.unframer) pushed (subst (λ (h : Hearing). Follows h j.pushed j.shown new.unframer) same j.follows) in
     let all = bytes_heard-append l.events a.events ∙ ap (λ b. bytes_heard l.events ++ b) a.heard in
@@ -139,12 +139,12 @@ Listening-more request me node old mid now new w x y quiets heard n bytes l a si
     }
 
 pub Listens-reply : (request : Request) (me node : ℕ) (old mid now new : Exchange) (w x y : Option World) (quiets heard n : ℕ) (bytes : List ℕ) (answer : Reply)
-    → left old ≡ [] → heard < 65536 → n ≤ 4096 → Listening request me node old mid w x quiets heard
-    → Arrives n bytes x y → length bytes ≡ n → now.unframer ≡ mid.unframer → left now ≡ bytes → Judges request me node now (Some answer) new
+    → waiting old ≡ [] → heard < 65536 → n ≤ 4096 → Listening request me node old mid w x quiets heard
+    → Arrives n bytes x y → length bytes ≡ n → now.unframer ≡ mid.unframer → waiting now ≡ bytes → Judges request me node now (Some answer) new
     → Listens request me node old w (asked.Reply answer) new y
 Listens-reply request me node old mid now new w x y quiets heard n bytes answer nothing few some l a size same at_hand j =
     let more : Follows mid.unframer j.pushed j.shown new.unframer = subst (λ (h : Hearing). Follows h j.pushed j.shown new.unframer) same j.follows in
-    let split : bytes ≡ j.pushed ++ left new = sym at_hand ∙ j.split in
+    let split : bytes ≡ j.pushed ++ waiting new = sym at_hand ∙ j.split in
     let all = bytes_heard-append l.events a.events ∙ ap (λ b. bytes_heard l.events ++ b) (a.heard ∙ split) in
     record {
       heard = l.events ++ a.events;
@@ -153,14 +153,14 @@ Listens-reply request me node old mid now new w x y quiets heard n bytes answer 
       pushed = bytes_heard l.events ++ j.pushed;
       shown = l.shown ++ j.shown;
       follows = Follows-trans old.unframer mid.unframer new.unframer (bytes_heard l.events) j.pushed l.shown j.shown l.follows more;
-      split = ap (λ p. p ++ bytes_heard (l.events ++ a.events)) nothing ∙ all ∙ sym (append_assoc (bytes_heard l.events) j.pushed (left new));
-      count = omega (arith, l.count, j.count, ap length split, length-append j.pushed (left new), size, ap (λ (h : Hearing). h.count) same, few, some);
+      split = ap (λ p. p ++ bytes_heard (l.events ++ a.events)) nothing ∙ all ∙ sym (append_assoc (bytes_heard l.events) j.pushed (waiting new));
+      count = omega (arith, l.count, j.count, ap length split, length-append j.pushed (waiting new), size, ap (λ (h : Hearing). h.count) same, few, some);
       ended = EndsWith-after request me node answer l.shown j.shown l.none j.outcome;
     }
 
 -- a limit was reached
 pub Listens-limit : (request : Request) (me node : ℕ) (old new : Exchange) (w x : Option World) (quiets heard : ℕ) (outcome : Asked)
-    → left old ≡ [] → heard ≤ 70000 → (l : Listening request me node old new w x quiets heard) → Outcome request me node new l.events l.shown outcome
+    → waiting old ≡ [] → heard ≤ 70000 → (l : Listening request me node old new w x quiets heard) → Outcome request me node new l.events l.shown outcome
     → Listens request me node old w outcome new x
 Listens-limit request me node old new w x quiets heard outcome nothing few l ended = record {
   heard = l.events;
@@ -193,7 +193,7 @@ from_start n chunk = ap (λ k. take k chunk) (omega arith)
 -- ---- asking
 
 pub Asks-at_once : (request : Request) (me node : ℕ) (old new : Exchange) (w x : Option World) (answer : Reply) → GrowsBy w x (Sent (request_frame request me node) ∷ [])
-    → length (left old) ≤ 4096 → Judges request me node old (Some answer) new → Asks request me node old w (asked.Reply answer) new x
+    → length (waiting old) ≤ 4096 → Judges request me node old (Some answer) new → Asks request me node old w (asked.Reply answer) new x
 Asks-at_once request me node old new w x answer grows few j = record {
   heard = [];
   grows = grows;
@@ -201,13 +201,13 @@ Asks-at_once request me node old new w x answer grows few j = record {
   pushed = j.pushed;
   shown = j.shown;
   follows = j.follows;
-  split = ap (λ b. left old ++ b) bytes_heard-nil ∙ append-nil (left old) ∙ j.split;
-  count = omega (arith, j.count, few, ap length j.split, length-append j.pushed (left new));
+  split = ap (λ b. waiting old ++ b) bytes_heard-nil ∙ append-nil (waiting old) ∙ j.split;
+  count = omega (arith, j.count, few, ap length j.split, length-append j.pushed (waiting new));
   ended = j.outcome;
 }
 
 -- no reply stood in what was at hand, so nothing is left of it
-pub none_at_hand : (request : Request) (me node : ℕ) (old new : Exchange) → Judges request me node old None new → left new ≡ []
+pub none_at_hand : (request : Request) (me node : ℕ) (old new : Exchange) → Judges request me node old None new → waiting new ≡ []
 none_at_hand request me node old new j = j.outcome.0
 
 Outcome-after : (request : Request) (me node : ℕ) (new : Exchange) (heard : World) (vs ws : List Verdict) (a : Asked) → NoneFits request me node vs → Outcome request me node new heard ws a
@@ -217,7 +217,7 @@ Outcome-after request me node new heard vs ws asked.NoAnswer none o = (NoneFits-
 Outcome-after request me node new heard vs ws asked.Flooded none o = (NoneFits-append request me node vs ws none o.0, o.1, o.2)
 
 pub Asks-listening : (request : Request) (me node : ℕ) (old mid new : Exchange) (w x y : Option World) (a : Asked) → GrowsBy w x (Sent (request_frame request me node) ∷ [])
-    → length (left old) ≤ 4096 → Judges request me node old None mid → Listens request me node mid x a new y → Asks request me node old w a new y
+    → length (waiting old) ≤ 4096 → Judges request me node old None mid → Listens request me node mid x a new y → Asks request me node old w a new y
 Asks-listening request me node old mid new w x y a grows few j l = record {
   heard = l.heard;
   grows = GrowsBy-trans w x y (Sent (request_frame request me node) ∷ []) l.heard grows l.grows;
@@ -225,14 +225,14 @@ Asks-listening request me node old mid new w x y a grows few j l = record {
   pushed = j.pushed ++ l.pushed;
   shown = j.shown ++ l.shown;
   follows = Follows-trans old.unframer mid.unframer new.unframer j.pushed l.pushed j.shown l.shown j.follows l.follows;
-  split = ap (λ b. b ++ bytes_heard l.heard) j.split ∙ append_assoc j.pushed (left mid) (bytes_heard l.heard) ∙ ap (λ b. j.pushed ++ b) l.split
-      ∙ sym (append_assoc j.pushed l.pushed (left new));
-  count = omega (arith, j.count, few, ap length j.split, length-append j.pushed (left mid), l.count);
+  split = ap (λ b. b ++ bytes_heard l.heard) j.split ∙ append_assoc j.pushed (waiting mid) (bytes_heard l.heard) ∙ ap (λ b. j.pushed ++ b) l.split
+      ∙ sym (append_assoc j.pushed l.pushed (waiting new));
+  count = omega (arith, j.count, few, ap length j.split, length-append j.pushed (waiting mid), l.count);
   ended = Outcome-after request me node new l.heard j.shown l.shown a j.outcome.1 l.ended;
 }
 
 -- the bytes at hand are at most a chunk
-pub few_at_hand : (e : Exchange) → length (left e) ≤ 4096
+pub few_at_hand : (e : Exchange) → length (waiting e) ≤ 4096
 few_at_hand e = omega (arith, length-take (e.len - e.at) (drop e.at e.chunk), e.fits, e.size)
 
 -- the frame that was sent is the request's
@@ -255,29 +255,29 @@ Stops-asking frame w x y g s = record {
 
 -- ---- what a crash may leave meanwhile
 
-pub sends_heard : {request : Request} {me node : ℕ} {first now : Exchange} {quiets heard n : ℕ} {bytes : List ℕ} (old mid new : Told)
+pub sends_heard : {request : Request} {me node : ℕ} {first now : Exchange} {quiets heard n : ℕ} {bytes : List ℕ} (old mid new : View)
     → Listening request me node first now old.link.world mid.link.world quiets heard → Arrives n bytes mid.link.world new.link.world
-    → LeavesOnly old mid (SendsAtMost [] old) → Elapses mid new → Looks old new → LeavesOnly old new (SendsAtMost [] old)
+    → LeavesOnly old mid (SendsAtMost [] old) → Elapses mid new → ReadsOnly old new → LeavesOnly old new (SendsAtMost [] old)
 sends_heard old mid new l a so_far time looks =
     sends_on [] [] old mid new (l.events ++ a.events) so_far time looks (GrowsBy-trans _ _ _ l.events a.events l.grows a.grows)
     (append-nil (sent (l.events ++ a.events)) ∙ sent-append l.events a.events ∙ ap (λ s. s ++ sent a.events) l.none_sent ∙ a.none_sent)
 
-pub sends_stopped : {request : Request} {me node : ℕ} {first now : Exchange} {quiets heard : ℕ} (old mid new : Told)
+pub sends_stopped : {request : Request} {me node : ℕ} {first now : Exchange} {quiets heard : ℕ} (old mid new : View)
     → Listening request me node first now old.link.world mid.link.world quiets heard → GrowsBy mid.link.world new.link.world []
-    → LeavesOnly old mid (SendsAtMost [] old) → Elapses mid new → Looks old new → LeavesOnly old new (SendsAtMost [] old)
+    → LeavesOnly old mid (SendsAtMost [] old) → Elapses mid new → ReadsOnly old new → LeavesOnly old new (SendsAtMost [] old)
 sends_stopped old mid new l grows so_far time looks =
     sends_on [] [] old mid new (l.events ++ []) so_far time looks (GrowsBy-trans _ _ _ l.events [] l.grows grows)
     (append-nil (sent (l.events ++ [])) ∙ sent-append l.events [] ∙ append-nil (sent l.events) ∙ l.none_sent)
 
-pub sends_frame : (frame : List ℕ) (old mid : Told) → IsLawful old → Elapses old mid → Looks old mid → GrowsBy old.link.world mid.link.world (Sent frame ∷ []) → LeavesOnly old mid (SendsAtMost (frame ∷ []) old)
+pub sends_frame : (frame : List ℕ) (old mid : View) → IsLawful old → Elapses old mid → ReadsOnly old mid → GrowsBy old.link.world mid.link.world (Sent frame ∷ []) → LeavesOnly old mid (SendsAtMost (frame ∷ []) old)
 sends_frame frame old mid lawful time looks grows = sends_on (frame ∷ []) [] old old mid (Sent frame ∷ []) (sends_none (frame ∷ []) old lawful) time looks grows refl
 
-pub sends_or_not : (frame other : List ℕ) (old mid : Told) → frame ≡ other → IsLawful old → Elapses old mid → Looks old mid → GrowsBy old.link.world mid.link.world (Sent frame ∷ []) ⊎ GrowsBy old.link.world mid.link.world []
+pub sends_or_not : (frame other : List ℕ) (old mid : View) → frame ≡ other → IsLawful old → Elapses old mid → ReadsOnly old mid → GrowsBy old.link.world mid.link.world (Sent frame ∷ []) ⊎ GrowsBy old.link.world mid.link.world []
     → LeavesOnly old mid (SendsAtMost (other ∷ []) old)
 sends_or_not frame other old mid is lawful time looks (inl grows) = sends_frame other old mid lawful time looks (sent_frame is grows)
 sends_or_not frame other old mid is lawful time looks (inr grows) = sends_on (other ∷ []) (other ∷ []) old old mid [] (sends_none (other ∷ []) old lawful) time looks grows refl
 
-pub sends_asking : (frame : List ℕ) (old mid new : Told) → IsLawful old → Elapses old mid → Looks old mid → GrowsBy old.link.world mid.link.world (Sent frame ∷ []) → LeavesOnly mid new (SendsAtMost [] mid)
+pub sends_asking : (frame : List ℕ) (old mid new : View) → IsLawful old → Elapses old mid → ReadsOnly old mid → GrowsBy old.link.world mid.link.world (Sent frame ∷ []) → LeavesOnly mid new (SendsAtMost [] mid)
     → LeavesOnly old new (SendsAtMost (frame ∷ []) old)
 sends_asking frame old mid new lawful time looks grows more =
     sends_then (frame ∷ []) (frame ∷ []) [] old mid new (Sent frame ∷ []) (sends_frame frame old mid lawful time looks grows) looks grows refl refl more

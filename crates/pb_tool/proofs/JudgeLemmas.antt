@@ -10,7 +10,7 @@ use Rattle.pb_tool.specs.declared.greeting.Reply.{Reply}
 use Rattle.pb_tool.specs.Ping.{IsReply, NoneFits}
 use Rattle.pb_tool.specs.declared.exchange.Exchange.{Exchange}
 use Rattle.pb_tool.specs.Judging.{EndsWith, JudgesByte}
-use Rattle.pb_tool.specs.Exchange.{left, Judges}
+use Rattle.pb_tool.specs.Exchange.{waiting, Judges}
 
 pub NoneFits-append : (request : Request) (me node : ℕ) (vs ws : List Verdict) → NoneFits request me node vs → NoneFits request me node ws → NoneFits request me node (vs ++ ws)
 NoneFits-append request me node [] ws p q = q
@@ -58,8 +58,8 @@ judged_as {request} {me} {node} {old} {new} {byte} is j = subst (λ (o : Option 
 -- ---- the bytes at hand, one after another
 
 -- the first of the bytes at hand, and the others
-left-more : (chunk : List ℕ) (at len : ℕ) → at < len → len ≤ length chunk → take (len - at) (drop at chunk) ≡ get_or chunk at 0 ∷ take (len - (at + 1)) (drop (at + 1) chunk)
-left-more chunk at len within fits =
+waiting-more : (chunk : List ℕ) (at len : ℕ) → at < len → len ≤ length chunk → take (len - at) (drop at chunk) ≡ get_or chunk at 0 ∷ take (len - (at + 1)) (drop (at + 1) chunk)
+waiting-more chunk at len within fits =
     let size : len - at ≡ suc (len - (at + 1)) = omega arith in
     ap (λ n. take n (drop at chunk)) size ∙ ap (take (suc (len - (at + 1)))) (drop_more chunk at 0 (omega arith))
 
@@ -69,7 +69,7 @@ pub record Passes (request : Request) (me node : ℕ) (old new : Exchange) : Typ
   pub shown : List Verdict
   pub follows : Follows old.unframer pushed shown new.unframer
   pub count : new.unframer.count ≡ old.unframer.count + length pushed
-  pub split : left old ≡ pushed ++ left new
+  pub split : waiting old ≡ pushed ++ waiting new
   pub none : NoneFits request me node shown
   pub place : new.at ≡ old.at + length pushed
 
@@ -77,13 +77,13 @@ pub Passes-start : (request : Request) (me node : ℕ) (old : Exchange) → Pass
 Passes-start request me node old = record { pushed = []; shown = []; follows = Follows-nil old.unframer; count = omega arith; split = refl; none = tt; place = omega arith }
 
 -- one of the bytes at hand was pushed
-split-more : (old mid : Exchange) (pushed : List ℕ) → mid.at < mid.len → mid.len ≤ length mid.chunk → left old ≡ pushed ++ left mid
-    → left old ≡ (pushed ++ get_or mid.chunk mid.at 0 ∷ []) ++ take (mid.len - (mid.at + 1)) (drop (mid.at + 1) mid.chunk)
+split-more : (old mid : Exchange) (pushed : List ℕ) → mid.at < mid.len → mid.len ≤ length mid.chunk → waiting old ≡ pushed ++ waiting mid
+    → waiting old ≡ (pushed ++ get_or mid.chunk mid.at 0 ∷ []) ++ take (mid.len - (mid.at + 1)) (drop (mid.at + 1) mid.chunk)
 split-more old mid pushed within fits is =
-    is ∙ ap (λ l. pushed ++ l) (left-more mid.chunk mid.at mid.len within fits) ∙ sym (append_assoc pushed (get_or mid.chunk mid.at 0 ∷ []) (take (mid.len - (mid.at + 1)) (drop (mid.at + 1) mid.chunk)))
+    is ∙ ap (λ l. pushed ++ l) (waiting-more mid.chunk mid.at mid.len within fits) ∙ sym (append_assoc pushed (get_or mid.chunk mid.at 0 ∷ []) (take (mid.len - (mid.at + 1)) (drop (mid.at + 1) mid.chunk)))
 
 pub Passes-more : (request : Request) (me node : ℕ) (old mid new : Exchange) → mid.at < mid.len → mid.len ≤ length mid.chunk → Passes request me node old mid
-    → left new ≡ take (mid.len - (mid.at + 1)) (drop (mid.at + 1) mid.chunk) → new.at ≡ mid.at + 1
+    → waiting new ≡ take (mid.len - (mid.at + 1)) (drop (mid.at + 1) mid.chunk) → new.at ≡ mid.at + 1
     → JudgesByte request me node mid.unframer (get_or mid.chunk mid.at 0) None new.unframer → Passes request me node old new
 Passes-more request me node old mid new within fits p rest next j = record {
   place = omega (arith, p.place, next, length-append p.pushed (get_or mid.chunk mid.at 0 ∷ []));
@@ -96,7 +96,7 @@ Passes-more request me node old mid new within fits p rest next j = record {
 }
 
 pub Judges-found : (request : Request) (me node : ℕ) (old mid new : Exchange) (answer : Reply) → mid.at < mid.len → mid.len ≤ length mid.chunk → Passes request me node old mid
-    → left new ≡ take (mid.len - (mid.at + 1)) (drop (mid.at + 1) mid.chunk)
+    → waiting new ≡ take (mid.len - (mid.at + 1)) (drop (mid.at + 1) mid.chunk)
     → JudgesByte request me node mid.unframer (get_or mid.chunk mid.at 0) (Some answer) new.unframer → Judges request me node old (Some answer) new
 Judges-found request me node old mid new answer within fits p rest j = record {
   pushed = p.pushed ++ get_or mid.chunk mid.at 0 ∷ [];

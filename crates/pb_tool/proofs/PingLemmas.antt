@@ -3,9 +3,9 @@ use Rattle.std.proofs.Common.{◌≡◌, ◌≢◌, ℕ, ◌≤◌, List, [], �
 use Rattle.std.proofs.lemmas.List.{append-nil}
 use Rattle.pb_base.specs.World.{World, Sent}
 use Rattle.pb_base.specs.declared.nsec.Nsec.{Nsec}
-use Rattle.pb_io.specs.Disk.{Looks}
+use Rattle.pb_io.specs.Disk.{ReadsOnly}
 use Rattle.pb_io.specs.Site.{GrowsBy, SendsAtMost}
-use Rattle.pb_io.specs.Told.{Told, LeavesOnly}
+use Rattle.pb_io.specs.View.{View, LeavesOnly}
 use Rattle.pb_io.proofs.SendLemmas.{sends_less, sends_then}
 use Rattle.pb_io.proofs.WorldLemmas.{GrowsBy-trans}
 use Rattle.pb_frame.specs.Framing.{Verdict, verdicts}
@@ -25,19 +25,19 @@ use Rattle.pb_tool.specs.Ping.{NoneFits, bytes_heard, quiet_ticks, request_frame
 use Rattle.pb_tool.specs.declared.status.Status.{Status}
 use Rattle.pb_tool.specs.PingText.{RanPing}
 use Rattle.pb_tool.specs.Judging.{EndsWith}
-use Rattle.pb_tool.specs.Exchange.{left, Asks, Stops}
+use Rattle.pb_tool.specs.Exchange.{waiting, Asks, Stops}
 use Rattle.pb_tool.proofs.ExchangeLemmas.{bytes_heard-append, bytes_heard-sent}
 
 -- ---- the hello alone
 
-module _ (me node : ℕ) (start : Exchange) (w x : Option World) (nothing : left start ≡ []) (stands : StandsFor start.unframer []) where
+module _ (me node : ℕ) (start : Exchange) (w x : Option World) (nothing : waiting start ≡ []) (stands : StandsFor start.unframer []) where
   -- all that was heard was pushed, where nothing is left
-  hello_verdicts : (a : Asked) (first : Exchange) (h : Asks request.Hello me node start w a first x) → left first ≡ [] → verdicts (bytes_heard h.heard) ≡ h.shown
+  hello_verdicts : (a : Asked) (first : Exchange) (h : Asks request.Hello me node start w a first x) → waiting first ≡ [] → verdicts (bytes_heard h.heard) ≡ h.shown
   hello_verdicts a first h none =
       ap verdicts (ap (λ l. l ++ bytes_heard h.heard) (sym nothing) ∙ h.split ∙ ap (λ l. h.pushed ++ l) none ∙ append-nil h.pushed)
       ∙ (Follows-start _ _ _ _ stands h.follows).1
 
-  hello_fails : (cause : Cause) (a : Asked) (first : Exchange) (h : Asks request.Hello me node start w a first x) → left first ≡ [] → NoneFits request.Hello me node h.shown
+  hello_fails : (cause : Cause) (a : Asked) (first : Exchange) (h : Asks request.Hello me node start w a first x) → waiting first ≡ [] → NoneFits request.Hello me node h.shown
       → Exhausts cause h.heard → Pinging me node w x (Err (fault.Hello cause))
   hello_fails cause a first h none no_reply limit = record {
     events = Sent (request_frame request.Hello me node) ∷ h.heard;
@@ -62,15 +62,15 @@ link_failed me node w x s = record { events = s.events; grows = s.grows; pings =
 
 -- ---- the answered hello
 
-module _ (me node : ℕ) (start first : Exchange) (w x : Option World) (nothing : left start ≡ []) (stands : StandsFor start.unframer [])
+module _ (me node : ℕ) (start first : Exchange) (w x : Option World) (nothing : waiting start ≡ []) (stands : StandsFor start.unframer [])
     (router metric verify : ℕ) (h : Asks request.Hello me node start w (asked.Reply (reply.Hello router metric verify)) first x) where
-  hello_heard : bytes_heard h.heard ≡ h.pushed ++ left first
+  hello_heard : bytes_heard h.heard ≡ h.pushed ++ waiting first
   hello_heard = ap (λ l. l ++ bytes_heard h.heard) (sym nothing) ∙ h.split
 
   -- the answer is among the frames heard before anything else was sent
   pub in_time : IsAnswered me node router metric verify h.heard
   in_time =
-      let grown = verdicts-append h.pushed (left first) in (
+      let grown = verdicts-append h.pushed (waiting first) in (
         grown.0,
         record {
           before = h.ended.before;
@@ -103,29 +103,29 @@ module _ (me node : ℕ) (start first : Exchange) (w x : Option World) (nothing 
 
 -- ---- the hello, and then the clock
 
-module _ (me node : ℕ) (start first second : Exchange) (w x y : Option World) (nothing : left start ≡ []) (stands : StandsFor start.unframer [])
+module _ (me node : ℕ) (start first second : Exchange) (w x y : Option World) (nothing : waiting start ≡ []) (stands : StandsFor start.unframer [])
     (router metric verify : ℕ) (a : Asked) (h : Asks request.Hello me node start w (asked.Reply (reply.Hello router metric verify)) first x) (c : Asks request.Clock me node first x a second y) where
   events_of : World
   events_of = (Sent (request_frame request.Hello me node) ∷ h.heard) ++ (Sent (request_frame request.Clock me node) ∷ c.heard)
 
-  both_heard : bytes_heard events_of ≡ (h.pushed ++ c.pushed) ++ left second
+  both_heard : bytes_heard events_of ≡ (h.pushed ++ c.pushed) ++ waiting second
   unfolding events_of
   both_heard =
       bytes_heard-append (Sent (request_frame request.Hello me node) ∷ h.heard) (Sent (request_frame request.Clock me node) ∷ c.heard)
       ∙ ap (λ l. l ++ bytes_heard (Sent (request_frame request.Clock me node) ∷ c.heard)) (bytes_heard-sent _ h.heard ∙ ap (λ l. l ++ bytes_heard h.heard) (sym nothing) ∙ h.split)
-      ∙ ap (λ l. (h.pushed ++ left first) ++ l) (bytes_heard-sent _ c.heard)
-      ∙ append_assoc h.pushed (left first) (bytes_heard c.heard) ∙ ap (λ l. h.pushed ++ l) c.split ∙ sym (append_assoc h.pushed c.pushed (left second))
+      ∙ ap (λ l. (h.pushed ++ waiting first) ++ l) (bytes_heard-sent _ c.heard)
+      ∙ append_assoc h.pushed (waiting first) (bytes_heard c.heard) ∙ ap (λ l. h.pushed ++ l) c.split ∙ sym (append_assoc h.pushed c.pushed (waiting second))
 
   both_shown : verdicts (h.pushed ++ c.pushed) ≡ h.shown ++ c.shown
   both_shown = (Follows-start _ _ _ _ stands (Follows-trans start.unframer first.unframer second.unframer h.pushed c.pushed h.shown c.shown h.follows c.follows)).1
 
   -- where nothing is left, the verdicts are those that were shown
-  all_shown : left second ≡ [] → verdicts (bytes_heard events_of) ≡ h.shown ++ c.shown
+  all_shown : waiting second ≡ [] → verdicts (bytes_heard events_of) ≡ h.shown ++ c.shown
   all_shown none = ap verdicts (both_heard ∙ ap (λ l. (h.pushed ++ c.pushed) ++ l) none ∙ append-nil (h.pushed ++ c.pushed)) ∙ both_shown
 
   more_shown : (more : List Verdict) × (verdicts (bytes_heard events_of) ≡ (h.shown ++ c.shown) ++ more)
   more_shown =
-      let grown = verdicts-append (h.pushed ++ c.pushed) (left second) in
+      let grown = verdicts-append (h.pushed ++ c.pushed) (waiting second) in
       (grown.0, ap verdicts both_heard ∙ grown.1 ∙ ap (λ l. l ++ grown.0) both_shown)
 
   asks_clock : (more : List Verdict) → verdicts (bytes_heard events_of) ≡ (h.shown ++ c.shown) ++ more → AsksClock me node router metric verify events_of
@@ -174,16 +174,16 @@ module _ (me node : ℕ) (start first second : Exchange) (w x y : Option World) 
       let m = more_shown in
       record { events = events_of; grows = both_grow; pings = (asks_clock m.0 m.1, (not, (time, answered (reply.Clock resp time) m.0 e))) }
 
-  no_more : left second ≡ [] → verdicts (bytes_heard events_of) ≡ (h.shown ++ c.shown) ++ []
+  no_more : waiting second ≡ [] → verdicts (bytes_heard events_of) ≡ (h.shown ++ c.shown) ++ []
   no_more none = all_shown none ∙ sym (append-nil (h.shown ++ c.shown))
 
-  pub clock_no_answer : left second ≡ [] → NoneFits request.Clock me node c.shown → 5 ≤ quiet_ticks c.heard
+  pub clock_no_answer : waiting second ≡ [] → NoneFits request.Clock me node c.shown → 5 ≤ quiet_ticks c.heard
       → Pinging me node w y (Err (fault.Clock NoAnswer router metric verify))
   unfolding asks_clock
   clock_no_answer none no_reply limit =
       record { events = events_of; grows = both_grow; pings = (asks_clock [] (no_more none), (subst (NoneFits request.Clock me node) (sym (append-nil c.shown)) no_reply, limit)) }
 
-  pub clock_flooded : left second ≡ [] → NoneFits request.Clock me node c.shown → 65536 ≤ length (bytes_heard c.heard)
+  pub clock_flooded : waiting second ≡ [] → NoneFits request.Clock me node c.shown → 65536 ≤ length (bytes_heard c.heard)
       → Pinging me node w y (Err (fault.Clock Flooded router metric verify))
   unfolding asks_clock
   clock_flooded none no_reply limit =
@@ -200,10 +200,10 @@ RanPing-as {a} {b} {me} {node} {r} {w} {x} {y} {z} same ran =
 
 -- ---- what a crash may leave meanwhile
 
-pub hello_leaves : (me node : ℕ) (old new : Told) → LeavesOnly old new (SendsAtMost (request_frame request.Hello me node ∷ []) old) → LeavesOnly old new (SendsAtMost (ping_frames me node) old)
+pub hello_leaves : (me node : ℕ) (old new : View) → LeavesOnly old new (SendsAtMost (request_frame request.Hello me node ∷ []) old) → LeavesOnly old new (SendsAtMost (ping_frames me node) old)
 hello_leaves me node old new leaves = sends_less (request_frame request.Hello me node ∷ []) (request_frame request.Clock me node ∷ []) old new leaves
 
-pub clock_leaves : (me node : ℕ) (old mid new : Told) (start first : Exchange) (a : Asked) → Asks request.Hello me node start old.link.world a first mid.link.world → Looks old mid
+pub clock_leaves : (me node : ℕ) (old mid new : View) (start first : Exchange) (a : Asked) → Asks request.Hello me node start old.link.world a first mid.link.world → ReadsOnly old mid
     → LeavesOnly old mid (SendsAtMost (request_frame request.Hello me node ∷ []) old) → LeavesOnly mid new (SendsAtMost (request_frame request.Clock me node ∷ []) mid)
     → LeavesOnly old new (SendsAtMost (ping_frames me node) old)
 clock_leaves me node old mid new start first a h looks one two =

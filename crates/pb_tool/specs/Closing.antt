@@ -1,17 +1,17 @@
 -- Closing lines.
 use Rattle.std.specs.Prelude.{◌≡◌, ℕ, ◌⊎◌, List, Option, codes}
 use Rattle.std.specs.Io.KnownBytes.{Appends}
-use Rattle.pb_io.specs.Sink.{AppendsFront}
+use Rattle.pb_io.specs.Sink.{AppendsPrefix}
 use Rattle.pb_tool.specs.declared.status.Status.{Status}
 use Rattle.pb_tool.specs.declared.status.Status.TheVariants.{Usage, WriteFault}
 
 -- a closing line was written, or a front of it where the answer isn't the status that it stands for
 abbrev pub Closes : Status → Status → List ℕ → Option (List ℕ) → Option (List ℕ) → Type 0
 Closes status result line written_old written_new =
-    ((result ≡ status) × Appends written_old written_new line) ⊎ ((result ≡ WriteFault) × AppendsFront written_old written_new line)
+    ((result ≡ status) × Appends written_old written_new line) ⊎ ((result ≡ WriteFault) × AppendsPrefix written_old written_new line)
 
 -- words of no listed form: their closing line, or a front of it
 abbrev pub Refused : Status → Option (List ℕ) → Option (List ℕ) → Type 0
 Refused Usage written_old written_new = Appends written_old written_new (codes "pakbus: usage\n")
-Refused WriteFault written_old written_new = AppendsFront written_old written_new (codes "pakbus: usage\n")
+Refused WriteFault written_old written_new = AppendsPrefix written_old written_new (codes "pakbus: usage\n")
 Refused _ written_old written_new = ⊥

@@ -13,8 +13,8 @@ use Rattle.pb_tool.specs.Ping.{NoneFits, bytes_heard, quiet_ticks, request_frame
 use Rattle.pb_tool.specs.Judging.{EndsWith}
 
 -- the bytes at hand that weren't judged
-abbrev pub left : Exchange → List ℕ
-left e = take (e.len - e.at) (drop e.at e.chunk)
+abbrev pub waiting : Exchange → List ℕ
+waiting e = take (e.len - e.at) (drop e.at e.chunk)
 
 -- the bytes at hand were judged, up to the first that shows a reply, or all
 pub record Judges (request : Request) (me node : ℕ) (old : Exchange) (answer : Option Reply) (new : Exchange) : Type 0 where
@@ -22,14 +22,14 @@ pub record Judges (request : Request) (me node : ℕ) (old : Exchange) (answer :
   pub shown : List Verdict
   pub follows : Follows old.unframer pushed shown new.unframer
   pub count : new.unframer.count ≡ old.unframer.count + length pushed
-  pub split : left old ≡ pushed ++ left new
-  pub outcome : MatchOption answer ((left new ≡ []) × NoneFits request me node shown) (λ r. EndsWith request me node r shown)
+  pub split : waiting old ≡ pushed ++ waiting new
+  pub outcome : MatchOption answer ((waiting new ≡ []) × NoneFits request me node shown) (λ r. EndsWith request me node r shown)
 
 -- why listening ended
 abbrev pub Outcome : Request → ℕ → ℕ → Exchange → World → List Verdict → Asked → Type 0
 Outcome request me node new heard shown (asked.Reply r) = EndsWith request me node r shown
-Outcome request me node new heard shown asked.NoAnswer = NoneFits request me node shown × (left new ≡ []) × (5 ≤ quiet_ticks heard)
-Outcome request me node new heard shown asked.Flooded = NoneFits request me node shown × (left new ≡ []) × (65536 ≤ length (bytes_heard heard))
+Outcome request me node new heard shown asked.NoAnswer = NoneFits request me node shown × (waiting new ≡ []) × (5 ≤ quiet_ticks heard)
+Outcome request me node new heard shown asked.Flooded = NoneFits request me node shown × (waiting new ≡ []) × (65536 ≤ length (bytes_heard heard))
 
 -- Nothing was sent, these events were heard, and with the bytes that were at hand before they were judged up to the
 -- outcome.
@@ -40,7 +40,7 @@ pub record Listens (request : Request) (me node : ℕ) (old : Exchange) (world_o
   pub pushed : List ℕ
   pub shown : List Verdict
   pub follows : Follows old.unframer pushed shown new.unframer
-  pub split : left old ++ bytes_heard heard ≡ pushed ++ left new
+  pub split : waiting old ++ bytes_heard heard ≡ pushed ++ waiting new
   pub count : new.unframer.count ≤ old.unframer.count + 100000
   pub ended : Outcome request me node new heard shown outcome
 
@@ -52,7 +52,7 @@ pub record Asks (request : Request) (me node : ℕ) (old : Exchange) (world_old 
   pub pushed : List ℕ
   pub shown : List Verdict
   pub follows : Follows old.unframer pushed shown new.unframer
-  pub split : left old ++ bytes_heard heard ≡ pushed ++ left new
+  pub split : waiting old ++ bytes_heard heard ≡ pushed ++ waiting new
   pub count : new.unframer.count ≤ old.unframer.count + 200000
   pub ended : Outcome request me node new heard shown outcome
 

@@ -1,7 +1,7 @@
 -- What `show` read and wrote, by its status.
 use Rattle.std.specs.Prelude.{◌≡◌, ℕ, ◌≤◌, ◌⊎◌, List, ◌++◌, Bool, true, false, Option, Some, IfSome, length}
 use Rattle.std.specs.Io.KnownBytes.{Appends, Consumes, IsAtEnd}
-use Rattle.pb_io.specs.Sink.{AppendsFront}
+use Rattle.pb_io.specs.Sink.{AppendsPrefix}
 use Rattle.pb_frame.specs.Framing.{verdicts}
 use Rattle.pb_tool.specs.declared.status.Status.{Status}
 use Rattle.pb_tool.specs.declared.status.Status.TheVariants.{Done, ReadFault, WriteFault, Format}
@@ -27,7 +27,7 @@ pub record ShowsFront (written_old written_new : Option (List ℕ)) (input : Lis
   pub taken : List ℕ
   pub rest : List ℕ
   pub split : input ≡ taken ++ rest
-  pub written : AppendsFront written_old written_new (lines (verdicts taken) ++ read_fault_line)
+  pub written : AppendsPrefix written_old written_new (lines (verdicts taken) ++ read_fault_line)
 
 -- `show`: no other status comes. After a failed write a front of one of two texts was written: of all that `show`
 -- writes, or, where a read failed, of whole lines from its front and the closing line.
@@ -35,5 +35,5 @@ abbrev pub Showed : Status → Option (List ℕ) → Option (List ℕ) → Optio
 Showed Done left_old left_new written_old written_new read_failed = IsAtEnd left_new × IfSome left_old (ShowsAll false left_new written_old written_new)
 Showed Format left_old left_new written_old written_new read_failed = IfSome left_old (ShowsAll true left_new written_old written_new)
 Showed ReadFault left_old left_new written_old written_new read_failed = IfSome left_old (ShowsTaken left_new written_old written_new)
-Showed WriteFault left_old left_new written_old written_new read_failed = IfSome left_old (λ input. AppendsFront written_old written_new (written_of input) ⊎ (read_failed × ShowsFront written_old written_new input))
+Showed WriteFault left_old left_new written_old written_new read_failed = IfSome left_old (λ input. AppendsPrefix written_old written_new (written_of input) ⊎ (read_failed × ShowsFront written_old written_new input))
 Showed _ left_old left_new written_old written_new read_failed = ⊥

@@ -1,9 +1,9 @@
 -- Which parts of the outside a command may touch, and what it leaves of them.
 use Rattle.std.specs.Prelude.{◌≡◌, [], Bool, true, false, ◌||◌, Option, Some, None}
 use Rattle.std.specs.Bool.{OnFalse}
-use Rattle.pb_io.specs.Disk.{Looks}
+use Rattle.pb_io.specs.Disk.{ReadsOnly}
 use Rattle.pb_io.specs.Site.{SendsAtMost}
-use Rattle.pb_io.specs.Told.{Told, LeavesOnly}
+use Rattle.pb_io.specs.View.{View, LeavesOnly}
 use Rattle.pb_io.specs.declared.disk.Disk as disk
 use Rattle.pb_tool.specs.declared.words.Command.{Command}
 use Rattle.pb_tool.specs.declared.words.Command.TheVariants.{Show, Ping}
@@ -24,13 +24,13 @@ uses (Some (Ping me node)) = record { input = false; disk = false; link = true }
 pub record Leaves {S I : Type 0} (d : disk.Ghosts S) (u : Uses) (site_old : S) (input_old : I) (site_new : S) (input_new : I) : Type 0 where
   pub input : OnFalse u.input (input_new ≡ input_old)
   pub site : OnFalse (u.disk || u.link) (site_new ≡ site_old)
-  pub disk : OnFalse u.disk (Looks (d.told site_old) (d.told site_new))
-  pub disk_faults : OnFalse u.disk ((d.told site_new).faults ≡ (d.told site_old).faults)
-  pub link : OnFalse u.link ((d.told site_new).link ≡ (d.told site_old).link)
+  pub disk : OnFalse u.disk (ReadsOnly (d.view site_old) (d.view site_new))
+  pub disk_faults : OnFalse u.disk ((d.view site_new).faults ≡ (d.view site_old).faults)
+  pub link : OnFalse u.link ((d.view site_new).link ≡ (d.view site_old).link)
 
 -- What a crash at some moment of the command may leave, with the world of that moment. Where no row says otherwise it
 -- is an image at entry, and the world at entry with a front of these frames sent.
-abbrev pub Left : Option Command → Told → Told → Type 0
-Left None old new = LeavesOnly old new (SendsAtMost [] old)
-Left (Some Show) old new = LeavesOnly old new (SendsAtMost [] old)
-Left (Some (Ping me node)) old new = LeavesOnly old new (SendsAtMost (ping_frames me node) old)
+abbrev pub MayLeave : Option Command → View → View → Type 0
+MayLeave None old new = LeavesOnly old new (SendsAtMost [] old)
+MayLeave (Some Show) old new = LeavesOnly old new (SendsAtMost [] old)
+MayLeave (Some (Ping me node)) old new = LeavesOnly old new (SendsAtMost (ping_frames me node) old)

@@ -2,7 +2,7 @@ ghost use Rattle.std.specs.Prelude.{map, string_bytes};
 ghost use Rattle.pb_io.specs.Outside.{outside};
 ghost use Rattle.pb_tool.specs.Causes.{Causes};
 ghost use Rattle.pb_tool.specs.Ran.{Ran};
-ghost use Rattle.pb_tool.specs.Uses.{uses, Leaves, Left};
+ghost use Rattle.pb_tool.specs.Uses.{uses, Leaves, MayLeave};
 ghost use Rattle.pb_tool.specs.Words.{Said};
 
 use crate::closing::close;
@@ -28,7 +28,7 @@ pub fn run<S: Site, I: Source, O: Sink>(
         (outside S.Disk I.Source O.Sink site.new input.new out.new)) }
 
     // What a crash at any moment of it may leave, with the world of that moment.
-    ensures left { Said (map string_bytes words.now) (λ c. Left c (S.told site.old) (S.told site.new)) }
+    ensures may_leave { Said (map string_bytes words.now) (λ c. MayLeave c (S.view site.old) (S.view site.new)) }
 
     // What it doesn't use is as it was.
     ensures leaves { Said (map string_bytes words.now) (λ c.
@@ -55,7 +55,7 @@ fn perform<S: Site, I: Source, O: Sink>(
     ensures ran { Ran (Some command) result
         (outside S.Disk I.Source O.Sink site.old input.old out.old)
         (outside S.Disk I.Source O.Sink site.new input.new out.new) }
-    ensures left { Left (Some command) (S.told site.old) (S.told site.new) }
+    ensures may_leave { MayLeave (Some command) (S.view site.old) (S.view site.new) }
     ensures leaves { Leaves S.Disk (uses (Some command)) site.old input.old site.new input.new }
     ensures causes { Causes result
         (outside S.Disk I.Source O.Sink site.old input.old out.old)

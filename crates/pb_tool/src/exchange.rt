@@ -1,9 +1,9 @@
 //! One request over a link, and what is heard until its answer or a limit.
 ghost use Rattle.std.specs.Prelude.{◌≡◌, ◌==◌, if◌then◌else◌, ℕ, ◌+◌, ◌^◌, ◌<◌, ◌≤◌, [], ◌∷◌, length, take, IfOk, OnErr};
-ghost use Rattle.pb_io.specs.Disk.{Looks};
+ghost use Rattle.pb_io.specs.Disk.{ReadsOnly};
 ghost use Rattle.pb_io.specs.Faults.{HasCause};
 ghost use Rattle.pb_io.specs.Site.{SendsAtMost};
-ghost use Rattle.pb_io.specs.Told.{LeavesOnly};
+ghost use Rattle.pb_io.specs.View.{LeavesOnly};
 ghost use Rattle.pb_frame.specs.Hearing.{StandsFor};
 ghost use Rattle.pb_tool.specs.Judging.{JudgesByte};
 ghost use Rattle.pb_tool.specs.Ping.{request_frame};
@@ -44,11 +44,11 @@ pub struct Exchange {
 }
 
 impl Exchange {
-    ghost use Rattle.pb_tool.specs.Exchange.{left, Judges, Listens, Asks, Stops};
+    ghost use Rattle.pb_tool.specs.Exchange.{waiting, Judges, Listens, Asks, Stops};
 
     /// A link of which nothing was heard.
     pub fn new() -> Self
-        ensures nothing { left result ≡ [] }
+        ensures nothing { waiting result ≡ [] }
         ensures stands { StandsFor result.unframer [] }
         ensures count { result.unframer.count ≡ 0 }
     {
@@ -70,12 +70,12 @@ impl Exchange {
         node: NodeId,
     ) -> Result<Asked, Failed>
         requires { self.old.unframer.count ≤ 2 ^ 40 }
-        ensures asks { IfOk result (λ asked. Asks request me node self.old (S.told site.old).link.world asked self.new (S.told site.new).link.world) }
-        ensures stops { OnErr result (Stops (request_frame request me node ∷ []) (S.told site.old).link.world (S.told site.new).link.world) }
-        ensures disk { Looks (S.told site.old) (S.told site.new) }
-        ensures disk_faults { (S.told site.new).faults ≡ (S.told site.old).faults }
-        ensures left { LeavesOnly (S.told site.old) (S.told site.new) (SendsAtMost (request_frame request me node ∷ []) (S.told site.old)) }
-        ensures cause { HasCause (S.told site.old).link.faults (S.told site.new).link.faults result }
+        ensures asks { IfOk result (λ asked. Asks request me node self.old (S.view site.old).link.world asked self.new (S.view site.new).link.world) }
+        ensures stops { OnErr result (Stops (request_frame request me node ∷ []) (S.view site.old).link.world (S.view site.new).link.world) }
+        ensures disk { ReadsOnly (S.view site.old) (S.view site.new) }
+        ensures disk_faults { (S.view site.new).faults ≡ (S.view site.old).faults }
+        ensures leaves { LeavesOnly (S.view site.old) (S.view site.new) (SendsAtMost (request_frame request me node ∷ []) (S.view site.old)) }
+        ensures cause { HasCause (S.view site.old).link.faults (S.view site.new).link.faults result }
     {
         let mut frame = [0; FRAME_MAX];
         let len = write_request(request, me, node, &mut frame);
@@ -96,13 +96,13 @@ impl Exchange {
         node: NodeId,
     ) -> Result<Asked, Failed>
         requires count { self.old.unframer.count ≤ 2 ^ 41 }
-        requires nothing { left self.old ≡ [] }
-        ensures listens { IfOk result (λ asked. Listens request me node self.old (S.told site.old).link.world asked self.new (S.told site.new).link.world) }
-        ensures stops { OnErr result (Stops [] (S.told site.old).link.world (S.told site.new).link.world) }
-        ensures disk { Looks (S.told site.old) (S.told site.new) }
-        ensures disk_faults { (S.told site.new).faults ≡ (S.told site.old).faults }
-        ensures left { LeavesOnly (S.told site.old) (S.told site.new) (SendsAtMost [] (S.told site.old)) }
-        ensures cause { HasCause (S.told site.old).link.faults (S.told site.new).link.faults result }
+        requires nothing { waiting self.old ≡ [] }
+        ensures listens { IfOk result (λ asked. Listens request me node self.old (S.view site.old).link.world asked self.new (S.view site.new).link.world) }
+        ensures stops { OnErr result (Stops [] (S.view site.old).link.world (S.view site.new).link.world) }
+        ensures disk { ReadsOnly (S.view site.old) (S.view site.new) }
+        ensures disk_faults { (S.view site.new).faults ≡ (S.view site.old).faults }
+        ensures leaves { LeavesOnly (S.view site.old) (S.view site.new) (SendsAtMost [] (S.view site.old)) }
+        ensures cause { HasCause (S.view site.old).link.faults (S.view site.new).link.faults result }
     {
         let mut quiets = 0;
         let mut heard = 0;

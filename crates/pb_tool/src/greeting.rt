@@ -1,9 +1,9 @@
 //! `ping`: a hello to a node, and then a question for its time.
 ghost use Rattle.std.specs.Prelude.{◌≡◌, ◌<◌, ◌≤◌, Err};
-ghost use Rattle.pb_io.specs.Disk.{Looks};
+ghost use Rattle.pb_io.specs.Disk.{ReadsOnly};
 ghost use Rattle.pb_io.specs.Faults.{Rose};
 ghost use Rattle.pb_io.specs.Site.{SendsAtMost};
-ghost use Rattle.pb_io.specs.Told.{LeavesOnly};
+ghost use Rattle.pb_io.specs.View.{LeavesOnly};
 ghost use Rattle.pb_tool.specs.Ping.{ping_frames, Pinging};
 
 use crate::exchange::{Asked, Exchange};
@@ -62,13 +62,13 @@ pub enum Reply {
 /// Says hello to a node, and asks it for its time. After a hello without an answer nothing more is sent. It takes no
 /// memory.
 pub fn ping<S: Site>(site: &mut S, me: NodeId, node: NodeId) -> Result<Pinged, PingFault>
-    ensures pings { Pinging me node (S.told site.old).link.world (S.told site.new).link.world result }
-    ensures link_fault { result ≡ Err PingFault.LinkFault → Rose (S.told site.old).link.faults (S.told site.new).link.faults }
-    ensures later { (S.told site.old).link.faults ≤ (S.told site.new).link.faults }
-    ensures link_told { (S.told site.old).link.faults < (S.told site.new).link.faults → result ≡ Err PingFault.LinkFault }
-    ensures left { LeavesOnly (S.told site.old) (S.told site.new) (SendsAtMost (ping_frames me node) (S.told site.old)) }
-    ensures disk { Looks (S.told site.old) (S.told site.new) }
-    ensures disk_faults { (S.told site.new).faults ≡ (S.told site.old).faults }
+    ensures pings { Pinging me node (S.view site.old).link.world (S.view site.new).link.world result }
+    ensures link_fault { result ≡ Err PingFault.LinkFault → Rose (S.view site.old).link.faults (S.view site.new).link.faults }
+    ensures later { (S.view site.old).link.faults ≤ (S.view site.new).link.faults }
+    ensures link_reported { (S.view site.old).link.faults < (S.view site.new).link.faults → result ≡ Err PingFault.LinkFault }
+    ensures leaves { LeavesOnly (S.view site.old) (S.view site.new) (SendsAtMost (ping_frames me node) (S.view site.old)) }
+    ensures disk { ReadsOnly (S.view site.old) (S.view site.new) }
+    ensures disk_faults { (S.view site.new).faults ≡ (S.view site.old).faults }
 {
     let mut exchange = Exchange::new();
     let (router, metric, verify) = match exchange.ask(site, Request::Hello, me, node) {

@@ -1,8 +1,8 @@
 //! The lines of `ping`.
 ghost use Rattle.std.specs.Prelude.{◌≡◌, ◌≢◌, ◌≤◌, ◌+◌, ◌++◌, length};
-ghost use Rattle.pb_io.specs.Disk.{Looks};
+ghost use Rattle.pb_io.specs.Disk.{ReadsOnly};
 ghost use Rattle.pb_io.specs.Site.{SendsAtMost};
-ghost use Rattle.pb_io.specs.Told.{LeavesOnly};
+ghost use Rattle.pb_io.specs.View.{LeavesOnly};
 ghost use Rattle.pb_tool.specs.Causes.{Counts};
 ghost use Rattle.pb_tool.specs.Ping.{ping_frames};
 ghost use Rattle.pb_tool.specs.PingText.{hello_text, clock_text, cause_text, no_hello_text, no_clock_text, ping_text, ping_status, RanPing};
@@ -17,14 +17,14 @@ use pb_io::{Sink, Site};
 
 /// Pings a node, and prints what it answered.
 pub fn print<S: Site, O: Sink>(me: NodeId, node: NodeId, site: &mut S, out: &mut O) -> Status
-    ensures ran { RanPing me node result (S.told site.old).link.world (S.told site.new).link.world (O.written out.old) (O.written out.new) }
-    ensures links { Counts Status.LinkFault result (S.told site.old).link.faults (S.told site.new).link.faults }
+    ensures ran { RanPing me node result (S.view site.old).link.world (S.view site.new).link.world (O.written out.old) (O.written out.new) }
+    ensures links { Counts Status.LinkFault result (S.view site.old).link.faults (S.view site.new).link.faults }
     ensures writes { Counts Status.WriteFault result (O.write_faults out.old) (O.write_faults out.new) }
     ensures read_fault { result ≢ Status.ReadFault }
     ensures disk_fault { result ≢ Status.DiskFault }
-    ensures left { LeavesOnly (S.told site.old) (S.told site.new) (SendsAtMost (ping_frames me node) (S.told site.old)) }
-    ensures disk { Looks (S.told site.old) (S.told site.new) }
-    ensures disk_faults { (S.told site.new).faults ≡ (S.told site.old).faults }
+    ensures leaves { LeavesOnly (S.view site.old) (S.view site.new) (SendsAtMost (ping_frames me node) (S.view site.old)) }
+    ensures disk { ReadsOnly (S.view site.old) (S.view site.new) }
+    ensures disk_faults { (S.view site.new).faults ≡ (S.view site.old).faults }
 {
     let answer = ping(site, me, node);
     let mut page = Page::new();

@@ -55,6 +55,8 @@ fn reads_the_forms_of_a_peer(rt: HostRuntime) {
     for (word, host, port) in [
         ("192.168.1.9:6785", "192.168.1.9", 6785),
         ("::1:1", "::1", 1),
+        ("[::1]:6785", "::1", 6785),
+        ("[listen]:1", "listen", 1),
         ("listener:65535", "listener", 65535),
     ] {
         assert_eq!(rt; host_and_port(word), Some((host, port)), "{word}");
@@ -68,6 +70,9 @@ fn reads_the_forms_of_a_peer(rt: HostRuntime) {
         "logger:+1",
         "logger:65536",
         "listen:6785",
+        "[::1:6785",
+        "[]:6785",
+        "[::1]6785",
     ] {
         assert_eq!(rt; host_and_port(word), None, "{word}");
     }

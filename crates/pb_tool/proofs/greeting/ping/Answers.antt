@@ -55,26 +55,26 @@ returns-else-resp-ne0-clause-pings g c =
     c.in-Ok-Reply-Hello.router c.in-Ok-Reply-Hello.metric c.in-Ok-Reply-Hello.verify _ hello clock
     c.in-Ok-Reply-Clock-ask.time (subst (λ (resp : ℕ). EndsWith request.Clock c.args.me c.args.node (reply.Clock resp c.in-Ok-Reply-Clock-ask.time) clock.shown) c.if-resp-ne0.false clock.ended)
 
-pub returns-in-Err-clause-left : goal.returns-in-Err-clause-left
-returns-in-Err-clause-left g c = hello_leaves c.args.me c.args.node _ _ c.ask.ensures.left
+pub returns-in-Err-clause-leaves : goal.returns-in-Err-clause-leaves
+returns-in-Err-clause-leaves g c = hello_leaves c.args.me c.args.node _ _ c.ask.ensures.leaves
 
-pub returns-in-Ok-NoAnswer-clause-left : goal.returns-in-Ok-NoAnswer-clause-left
-returns-in-Ok-NoAnswer-clause-left g c = hello_leaves c.args.me c.args.node _ _ c.ask.ensures.left
+pub returns-in-Ok-NoAnswer-clause-leaves : goal.returns-in-Ok-NoAnswer-clause-leaves
+returns-in-Ok-NoAnswer-clause-leaves g c = hello_leaves c.args.me c.args.node _ _ c.ask.ensures.leaves
 
-pub returns-in-Ok-Flooded-clause-left : goal.returns-in-Ok-Flooded-clause-left
-returns-in-Ok-Flooded-clause-left g c = hello_leaves c.args.me c.args.node _ _ c.ask.ensures.left
+pub returns-in-Ok-Flooded-clause-leaves : goal.returns-in-Ok-Flooded-clause-leaves
+returns-in-Ok-Flooded-clause-leaves g c = hello_leaves c.args.me c.args.node _ _ c.ask.ensures.leaves
 
-pub returns-then-resp-ne0-clause-left : goal.returns-then-resp-ne0-clause-left
-returns-then-resp-ne0-clause-left g c = clock_leaves c.args.me c.args.node _ _ _ _ _ _ c.in-Ok-Reply-Hello.ensures.asks c.ask.ensures.disk c.ask.ensures.left c.ask-2.ensures.left
+pub returns-then-resp-ne0-clause-leaves : goal.returns-then-resp-ne0-clause-leaves
+returns-then-resp-ne0-clause-leaves g c = clock_leaves c.args.me c.args.node _ _ _ _ _ _ c.in-Ok-Reply-Hello.ensures.asks c.ask.ensures.disk c.ask.ensures.leaves c.ask-2.ensures.leaves
 
-pub returns-in-Err-ask-clause-left : goal.returns-in-Err-ask-clause-left
-returns-in-Err-ask-clause-left g c = clock_leaves c.args.me c.args.node _ _ _ _ _ _ c.in-Ok-Reply-Hello.ensures.asks c.ask.ensures.disk c.ask.ensures.left c.ask-2.ensures.left
+pub returns-in-Err-ask-clause-leaves : goal.returns-in-Err-ask-clause-leaves
+returns-in-Err-ask-clause-leaves g c = clock_leaves c.args.me c.args.node _ _ _ _ _ _ c.in-Ok-Reply-Hello.ensures.asks c.ask.ensures.disk c.ask.ensures.leaves c.ask-2.ensures.leaves
 
-pub returns-in-Ok-NoAnswer-ask-clause-left : goal.returns-in-Ok-NoAnswer-ask-clause-left
-returns-in-Ok-NoAnswer-ask-clause-left g c = clock_leaves c.args.me c.args.node _ _ _ _ _ _ c.in-Ok-Reply-Hello.ensures.asks c.ask.ensures.disk c.ask.ensures.left c.ask-2.ensures.left
+pub returns-in-Ok-NoAnswer-ask-clause-leaves : goal.returns-in-Ok-NoAnswer-ask-clause-leaves
+returns-in-Ok-NoAnswer-ask-clause-leaves g c = clock_leaves c.args.me c.args.node _ _ _ _ _ _ c.in-Ok-Reply-Hello.ensures.asks c.ask.ensures.disk c.ask.ensures.leaves c.ask-2.ensures.leaves
 
-pub returns-in-Ok-Flooded-ask-clause-left : goal.returns-in-Ok-Flooded-ask-clause-left
-returns-in-Ok-Flooded-ask-clause-left g c = clock_leaves c.args.me c.args.node _ _ _ _ _ _ c.in-Ok-Reply-Hello.ensures.asks c.ask.ensures.disk c.ask.ensures.left c.ask-2.ensures.left
+pub returns-in-Ok-Flooded-ask-clause-leaves : goal.returns-in-Ok-Flooded-ask-clause-leaves
+returns-in-Ok-Flooded-ask-clause-leaves g c = clock_leaves c.args.me c.args.node _ _ _ _ _ _ c.in-Ok-Reply-Hello.ensures.asks c.ask.ensures.disk c.ask.ensures.leaves c.ask-2.ensures.leaves
 
-pub returns-else-resp-ne0-clause-left : goal.returns-else-resp-ne0-clause-left
-returns-else-resp-ne0-clause-left g c = clock_leaves c.args.me c.args.node _ _ _ _ _ _ c.in-Ok-Reply-Hello.ensures.asks c.ask.ensures.disk c.ask.ensures.left c.ask-2.ensures.left
+pub returns-else-resp-ne0-clause-leaves : goal.returns-else-resp-ne0-clause-leaves
+returns-else-resp-ne0-clause-leaves g c = clock_leaves c.args.me c.args.node _ _ _ _ _ _ c.in-Ok-Reply-Hello.ensures.asks c.ask.ensures.disk c.ask.ensures.leaves c.ask-2.ensures.leaves

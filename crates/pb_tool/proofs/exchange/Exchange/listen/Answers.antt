@@ -1,6 +1,6 @@
 use Rattle.std.proofs.Common.{arith, refl, length, ◌≤◌, take, [], ◌∙◌}
 use Rattle.std.proofs.lemmas.List.{length-take-le}
-use Rattle.pb_io.proofs.SendLemmas.{Looks-refl, Looks-trans, sends_none}
+use Rattle.pb_io.proofs.SendLemmas.{ReadsOnly-refl, ReadsOnly-trans, sends_none}
 use Rattle.pb_io.proofs.SinkLemmas.{OnErr-anyway}
 use Rattle.pb_tool.proofs.ExchangeLemmas.{Listening-start, Listening-more, Listens-reply, Stops-listening, sends_heard, sends_stopped, arrives, judges_as, from_start}
 use Rattle.pb_tool.proofs.exchange.Exchange.listen.Goals as goal
@@ -10,7 +10,7 @@ loop-quiets-init g c = record {
   so_far = Listening-start c.args.request c.args.me c.args.node c.args.self.now _ c.requires.nothing;
   few = omega arith;
   ticks = omega arith;
-  disk = Looks-refl _;
+  disk = ReadsOnly-refl _;
   disk_faults = refl;
   kept = omega arith;
   leaves = sends_none [] _ (g.met.S.Disk.lawful c.args.site.now);
@@ -42,17 +42,17 @@ loop-quiets-preserved g c =
           (length-take-le c.in_ok-n.n c.recv.new.to fits) refl (from_start c.in_ok-n.n c.recv.new.to) (judges_as c.in_default.is c.judge.ensures));
       few = omega (arith, c.in_ok-n.ensures.bound, c.loop-quiets.self.size);
       ticks = omega (arith, c.quiet_tick-quiets.ensures.small);
-      disk = Looks-trans _ _ _ before now;
+      disk = ReadsOnly-trans _ _ _ before now;
       disk_faults = c.in_ok-n.ensures.disk_faults ∙ c.loop-quiets.invariant.disk_faults;
       kept = omega (arith, c.in_ok-n.ensures.cause.kept);
-      leaves = sends_heard _ _ _ c.loop-quiets.invariant.so_far came c.loop-quiets.invariant.leaves c.in_ok-n.ensures.time (Looks-trans _ _ _ before now);
+      leaves = sends_heard _ _ _ c.loop-quiets.invariant.so_far came c.loop-quiets.invariant.leaves c.in_ok-n.ensures.time (ReadsOnly-trans _ _ _ before now);
     }
 
-pub returns-in_err-n-clause-left : goal.returns-in_err-n-clause-left
-returns-in_err-n-clause-left g c =
-    sends_stopped _ _ _ c.loop-quiets.invariant.so_far c.in_err-n.ensures.world c.loop-quiets.invariant.leaves c.in_err-n.ensures.time (Looks-trans _ _ _ c.loop-quiets.invariant.disk c.in_err-n.ensures.disk)
+pub returns-in_err-n-clause-leaves : goal.returns-in_err-n-clause-leaves
+returns-in_err-n-clause-leaves g c =
+    sends_stopped _ _ _ c.loop-quiets.invariant.so_far c.in_err-n.ensures.world c.loop-quiets.invariant.leaves c.in_err-n.ensures.time (ReadsOnly-trans _ _ _ c.loop-quiets.invariant.disk c.in_err-n.ensures.disk)
 
-pub returns-in-Some-clause-left : goal.returns-in-Some-clause-left
-returns-in-Some-clause-left g c =
+pub returns-in-Some-clause-leaves : goal.returns-in-Some-clause-leaves
+returns-in-Some-clause-leaves g c =
     sends_heard _ _ _ c.loop-quiets.invariant.so_far (arrives c.in_ok-n.n c.recv.new.to _ _ c.in_ok-n.ensures.world) c.loop-quiets.invariant.leaves c.in_ok-n.ensures.time
-    (Looks-trans _ _ _ c.loop-quiets.invariant.disk c.in_ok-n.ensures.disk)
+    (ReadsOnly-trans _ _ _ c.loop-quiets.invariant.disk c.in_ok-n.ensures.disk)
