@@ -67,5 +67,5 @@ world-behind earlier (entry ∷ rest) =
     world-behind (change_of entry ∷ earlier) rest ∙ ap (λ l. l ++ events_in rest) (world-change entry earlier) ∙ append_assoc (world_of earlier) (events_of entry) (events_in rest)
 
 -- the world of a log is what its entries tell
-pub world_told : (entries : List Entry) → world_of (changes_behind [] entries) ≡ events_in entries
-world_told entries = world-behind [] entries
+pub world_kept : (entries : List Entry) → world_of (changes_behind [] entries) ≡ events_in entries
+world_kept entries = world-behind [] entries

@@ -4,7 +4,7 @@ use Rattle.std.proofs.lemmas.List.{take_at, length-take-le}
 use Rattle.pb_base.specs.World.{World, Quiet, all_heard}
 use Rattle.pb_io.specs.ChangeLog.{arrival}
 use Rattle.pb_io.specs.Site.{GrowsBy}
-use Rattle.pb_io.proofs.WorldLemmas.{GrowsBy-told, stream-heard}
+use Rattle.pb_io.proofs.WorldLemmas.{GrowsBy-known, stream-heard}
 
 arrival-some : (bytes : List ℕ) → 0 < length bytes → arrival bytes ≡ all_heard bytes
 arrival-some [] some = absurd (omega arith)
@@ -17,6 +17,6 @@ arrival_grows w v piece copied rest n is copies le =
     let given : take n (copied ++ rest) ≡ take n piece = take_at copied rest n (ap length copies ∙ long) ∙ copies in (
       λ some.
           let heard : arrival (take n piece) ≡ all_heard (take n (copied ++ rest)) = arrival-some (take n piece) (omega (arith, long)) ∙ ap all_heard (sym given) in
-          GrowsBy-told w v (all_heard (take n (copied ++ rest))) (is ∙ ap (λ l. w ++ l) heard) (stream-heard (take n (copied ++ rest))),
-      λ none. GrowsBy-told w v (Quiet ∷ []) (is ∙ ap (λ k. w ++ arrival (take k piece)) none) refl,
+          GrowsBy-known w v (all_heard (take n (copied ++ rest))) (is ∙ ap (λ l. w ++ l) heard) (stream-heard (take n (copied ++ rest))),
+      λ none. GrowsBy-known w v (Quiet ∷ []) (is ∙ ap (λ k. w ++ arrival (take k piece)) none) refl,
     )

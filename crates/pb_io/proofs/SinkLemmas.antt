@@ -4,11 +4,11 @@ use Rattle.std.proofs.lemmas.List.{take-append-drop}
 use Rattle.std.proofs.Math.Seq.{take-add}
 use Rattle.std.proofs.KnownBytes.{Appends-trans, Appends-kept}
 use Rattle.std.specs.Io.KnownBytes.{Appends, Keeps}
-use Rattle.pb_io.specs.Sink.{AppendsFront}
+use Rattle.pb_io.specs.Sink.{AppendsPrefix}
 
 -- a write that fails leaves the front that the writes before it took
-pub AppendsFront-kept : (a b c : Option (List ℕ)) (done : ℕ) (text : List ℕ) → Appends a b (take done text) → Keeps b c → AppendsFront a c text
-AppendsFront-kept a b c done text taken kept =
+pub AppendsPrefix-kept : (a b c : Option (List ℕ)) (done : ℕ) (text : List ℕ) → Appends a b (take done text) → Keeps b c → AppendsPrefix a c text
+AppendsPrefix-kept a b c done text taken kept =
     (take done text, drop done text, sym (take-append-drop done text), Appends-kept a b c (take done text) taken kept)
 
 -- a write that takes n bytes of the rest

@@ -1,15 +1,12 @@
 -- How worlds grow, and with them their histories.
-use Rattle.std.proofs.Common.{◌≡◌, ◌⊎◌, ⊎_elim, inl, inr, ℕ, zero, suc, ◌<◌, ◌≤◌, Bool, false, ◌&&◌, if◌then◌else◌, List, [], ◌∷◌, ◌++◌, take, Option, Some, refl, sym, ◌∙◌, ap, subst, arith, append_assoc, append-nil}
+use Rattle.std.proofs.Common.{◌≡◌, ℕ, zero, suc, ◌<◌, ◌≤◌, Bool, false, ◌&&◌, if◌then◌else◌, List, [], ◌∷◌, ◌++◌, take, Option, Some, refl, sym, ◌∙◌, ap, subst, arith, append_assoc, append-nil}
 use Rattle.std.proofs.lemmas.Grind.{flat_map-append}
 use Rattle.std.proofs.lemmas.List.Elements.{filter-append}
 use Rattle.std.proofs.lemmas.Option.{same_Some}
 use Rattle.std.specs.List.{flat_map}
 use Rattle.pb_base.specs.History.{TableKey, Later, is_about, stands_after, events_under, definition_in, record_in, greatest_oldest, history}
 use Rattle.pb_base.specs.World.{Begin, Sent, Heard, Quiet, Defined, Stored, Oldest, World, is_of_stream, stream_events, all_heard, sent}
-use Rattle.pb_io.proofs.Moments.{Now}
-use Rattle.pb_io.specs.Disk.{Looks}
-use Rattle.pb_io.specs.Site.{GrowsBy, SentOnce}
-use Rattle.pb_io.specs.Told.{Told}
+use Rattle.pb_io.specs.Site.{GrowsBy}
 
 -- whether the signature stands after all these events
 abbrev stands_at_end : TableKey → Bool → World → Bool
@@ -82,20 +79,14 @@ sent-grown a b events v grows is =
     let x = grows.back v is in
     (x.0, x.1, x.2, x.3, sym (sent-stream x.1) ∙ ap sent x.4)
 
--- after link calls that sent the frame once or not at all
-pub sent_now : (frame : List ℕ) (old new : Told) (events : World) → Looks old new → GrowsBy old.link.world new.link.world events → (sent events ≡ []) ⊎ (sent events ≡ frame ∷ []) → Now new (SentOnce frame old)
-sent_now frame old new events looks grows once w c is image =
-    let x = sent-grown _ _ events w grows is in
-    (looks.fewer c image, (x.0, x.1, x.2, x.3, ⊎_elim (λ none. inl (x.4 ∙ none)) (λ one. inr (x.4 ∙ one)) once))
-
 -- a receive that goes well sends nothing
 pub received : (old new : Option World) (given : List ℕ) (n : ℕ) → (0 < n → GrowsBy old new (all_heard (take n given))) × (n ≡ 0 → GrowsBy old new (Quiet ∷ [])) → (events : World) × GrowsBy old new events × (sent events ≡ [])
 received old new given zero heard = (Quiet ∷ [], heard.1 refl, refl)
 received old new given (suc n) heard = (all_heard (take (suc n) given), heard.0 (omega arith), sent-heard (take (suc n) given))
 
 -- a told world with events of the stream behind it
-pub GrowsBy-told : (w v events : World) → v ≡ w ++ events → stream_events events ≡ events → GrowsBy (Some w) (Some v) events
-GrowsBy-told w v events is stream = record {
+pub GrowsBy-known : (w v events : World) → v ≡ w ++ events → stream_events events ≡ events → GrowsBy (Some w) (Some v) events
+GrowsBy-known w v events is stream = record {
   on = λ u was. (events, ap (λ l. Some l) (is ∙ ap (λ l. l ++ events) (same_Some w u was)), stream);
   back = λ u now. (w, events, refl, sym (same_Some v u now) ∙ is, stream);
 }

@@ -1,15 +1,12 @@
 -- The calls of a form in memory: which of them fail, and what is counted of them.
-use Rattle.std.specs.Prelude.{ℕ, ◌+◌, ◌-◌, ◌^◌, min, Bool, List, ◌==◌, if◌then◌else◌}
+use Rattle.std.specs.Prelude.{ℕ, Bool, List, ◌==◌, if◌then◌else◌}
 use Rattle.std.specs.List.{list_any}
+use Rattle.pb_io.specs.Faults.{counted}
 
 pub record Calls : Type 0 where
   pub fails : List ℕ
   pub made : ℕ
   pub faults : ℕ
-
--- a count that goes up by one, and stands still at its type's end
-abbrev pub counted : ℕ → ℕ
-counted n = min (n + 1) (2 ^ 64 - 1)
 
 -- the number of the next call, from 0, is one of those that fail
 abbrev pub is_listed : Calls → Bool

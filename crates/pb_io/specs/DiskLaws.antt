@@ -6,8 +6,8 @@ use Rattle.std.proofs.lemmas.List.{length-take, take_at, drop_at, take_all}
 use Rattle.std.proofs.lemmas.Option.{same_Some}
 use Rattle.pb_base.specs.World.{World}
 use Rattle.pb_io.specs.Crash.{overlaid, Torn, Shortened}
-use Rattle.pb_io.specs.DiskLog.{Change, Wrote, Cut, Synced, Linked, fits, file_of, image_of, world_of, left_of, DiskLog, tells}
-use Rattle.pb_io.specs.Told.{IsLawful}
+use Rattle.pb_io.specs.DiskLog.{Change, Wrote, Cut, Synced, Linked, fits, file_of, image_of, world_of, left_after, DiskLog, disk_view}
+use Rattle.pb_io.specs.View.{IsLawful}
 
 pub length-overlaid : (f : List ℕ) (at : ℕ) (bytes : List ℕ) → at ≤ length f → length (overlaid f at bytes) ≡ max (length f) (at + length bytes)
 length-overlaid f at bytes le =
@@ -77,24 +77,24 @@ image-short first (Cut len ∷ earlier) c (d, was, step) = omega (arith, image-s
 image-short first (Synced ∷ earlier) c is = omega (arith, ap length is, file-short first earlier)
 image-short first (Linked events ∷ earlier) c was = image-short first earlier c was
 
-left-early : (first : List ℕ) (changes : List Change) (t : ℕ) (w : World) (c : List ℕ) → left_of first changes t w c → t ≤ length changes
+left-early : (first : List ℕ) (changes : List Change) (t : ℕ) (w : World) (c : List ℕ) → left_after first changes t w c → t ≤ length changes
 left-early first [] t w c left = left.0
 left-early first (change ∷ earlier) t w c (inl now) = now.0
 left-early first (change ∷ earlier) t w c (inr left) = omega (arith, left-early first earlier t w c left)
 
-left-counts : (first : List ℕ) (changes : List Change) (t : ℕ) (w : World) (c : List ℕ) → t ≤ length changes → Some (world_of changes) ≡ Some w → image_of first changes c → left_of first changes t w c
+left-counts : (first : List ℕ) (changes : List Change) (t : ℕ) (w : World) (c : List ℕ) → t ≤ length changes → Some (world_of changes) ≡ Some w → image_of first changes c → left_after first changes t w c
 left-counts first [] t w c le is image = (le, sym (same_Some _ _ is), image)
 left-counts first (change ∷ earlier) t w c le is image = inl (le, sym (same_Some _ _ is), image)
 
-left-only : (first : List ℕ) (changes : List Change) (w : World) (c : List ℕ) → left_of first changes (length changes) w c → (Some (world_of changes) ≡ Some w) × image_of first changes c
+left-only : (first : List ℕ) (changes : List Change) (w : World) (c : List ℕ) → left_after first changes (length changes) w c → (Some (world_of changes) ≡ Some w) × image_of first changes c
 left-only first [] w c (le, is, image) = (ap (λ x. Some x) (sym is), image)
 left-only first (change ∷ earlier) w c (inl (le, is, image)) = (ap (λ x. Some x) (sym is), image)
 left-only first (change ∷ earlier) w c (inr left) = absurd (omega (arith, left-early first earlier (length (change ∷ earlier)) w c left))
 
-pub disk_is_lawful : (disk : DiskLog) (link_faults quiets : ℕ) → IsLawful (tells disk link_faults quiets)
+pub disk_is_lawful : (disk : DiskLog) (link_faults quiets : ℕ) → IsLawful (disk_view disk link_faults quiets)
 disk_is_lawful disk link_faults quiets = record {
   reads = λ f is. subst (image_of disk.first disk.changes) (same_Some _ _ is) (file-image disk.first disk.changes);
-  told = λ c image. (file_of disk.first disk.changes, refl);
+  known = λ c image. (file_of disk.first disk.changes, refl);
   short = image-short disk.first disk.changes;
   counts_now = left-counts disk.first disk.changes;
   only_now = left-only disk.first disk.changes;

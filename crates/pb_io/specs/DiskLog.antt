@@ -3,7 +3,7 @@ use Rattle.std.specs.Prelude.{◌≡◌, ◌⊎◌, ℕ, ◌+◌, ◌^◌, ◌�
 use Rattle.pb_base.specs.World.{World}
 use Rattle.pb_io.specs.Calls.{Calls}
 use Rattle.pb_io.specs.Crash.{overlaid, Torn, Shortened}
-use Rattle.pb_io.specs.Told.{Told}
+use Rattle.pb_io.specs.View.{View}
 
 pub data Change : Type 0 where
   Wrote : (at : ℕ) (bytes : List ℕ) → Change
@@ -37,10 +37,10 @@ world_of (Linked events ∷ earlier) = world_of earlier ++ events
 world_of (change ∷ earlier) = world_of earlier
 
 -- at a moment from t on, which is a number of changes, the world was this one and a crash could leave this file
-abbrev pub left_of : List ℕ → List Change → ℕ → World → List ℕ → Type 0
-left_of first [] t w c = (t ≤ 0) × (w ≡ []) × image_of first [] c
-left_of first (change ∷ earlier) t w c =
-    ((t ≤ length (change ∷ earlier)) × (w ≡ world_of (change ∷ earlier)) × image_of first (change ∷ earlier) c) ⊎ left_of first earlier t w c
+abbrev pub left_after : List ℕ → List Change → ℕ → World → List ℕ → Type 0
+left_after first [] t w c = (t ≤ 0) × (w ≡ []) × image_of first [] c
+left_after first (change ∷ earlier) t w c =
+    ((t ≤ length (change ∷ earlier)) × (w ≡ world_of (change ∷ earlier)) × image_of first (change ∷ earlier) c) ⊎ left_after first earlier t w c
 
 -- what contracts see of a disk in memory
 pub record DiskLog : Type 0 where
@@ -49,12 +49,12 @@ pub record DiskLog : Type 0 where
   pub calls : Calls
 
 -- what it tells, where these link calls failed and these ticks were quiet
-abbrev pub tells : DiskLog → ℕ → ℕ → Told
-tells disk link_faults quiets = record {
+abbrev pub disk_view : DiskLog → ℕ → ℕ → View
+disk_view disk link_faults quiets = record {
   file = Some (file_of disk.first disk.changes);
   image = image_of disk.first disk.changes;
   faults = disk.calls.faults;
   link = record { world = Some (world_of disk.changes); faults = link_faults; quiets = quiets };
   moment = length disk.changes;
-  left = left_of disk.first disk.changes;
+  may_leave = left_after disk.first disk.changes;
 }

@@ -1,13 +1,14 @@
 -- What contracts see of the forms in memory.
 use Rattle.std.specs.Prelude.{ℕ, List}
 use Rattle.pb_io.specs.Calls.{Calls}
-use Rattle.pb_io.specs.DiskLog.{DiskLog, tells}
-use Rattle.pb_io.specs.Told.{Told}
+use Rattle.pb_io.specs.DiskLog.{DiskLog, disk_view}
+use Rattle.pb_io.specs.View.{View}
 
--- the bytes that are left, and the greatest number that one read gives
+-- the bytes that are left, the greatest number that one read gives, and how often a read found the end
 pub record Supply : Type 0 where
   pub left : List ℕ
   pub piece : ℕ
+  pub ends : ℕ
   pub calls : Calls
 
 -- the bytes that were written
@@ -23,5 +24,5 @@ pub record Place : Type 0 where
   pub quiets : ℕ
 
 -- what a site in memory tells: its disk, and the world but no history
-abbrev pub told_by : Place → Told
-told_by site = tells site.disk site.calls.faults site.quiets
+abbrev pub site_view : Place → View
+site_view site = disk_view site.disk site.calls.faults site.quiets

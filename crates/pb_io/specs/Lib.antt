@@ -1,6 +1,5 @@
 pub mod Calls
 pub mod ChangeLog
-pub mod Copy
 pub mod Crash
 pub mod Disk
 pub mod DiskLaws
@@ -8,8 +7,9 @@ pub mod DiskLog
 pub mod Faults
 pub mod InMemory
 pub mod Inbox
+pub mod Outside
 pub mod Settled
 pub mod Sink
 pub mod Site
 pub mod Source
-pub mod Told
+pub mod View

@@ -6,6 +6,6 @@ use Rattle.std.specs.Io.KnownBytes.{Appends, Keeps}
 abbrev pub Writes : {E : Type 0} → Option (List ℕ) → Option (List ℕ) → List ℕ → Result ℕ E → Type 0
 Writes old new piece result = MatchResult result (λ n. Appends old new (take n piece)) (λ _. Keeps old new)
 
--- known bytes grew by a front of these
-abbrev pub AppendsFront : Option (List ℕ) → Option (List ℕ) → List ℕ → Type 0
-AppendsFront old new text = (front rest : List ℕ) × (text ≡ front ++ rest) × Appends old new front
+-- known bytes grew by a prefix of these
+abbrev pub AppendsPrefix : Option (List ℕ) → Option (List ℕ) → List ℕ → Type 0
+AppendsPrefix old new text = (prefix rest : List ℕ) × (text ≡ prefix ++ rest) × Appends old new prefix

@@ -1,8 +1,8 @@
 -- What the calls of a link do to what a site tells.
-use Rattle.std.specs.Prelude.{◌≡◌, ◌⊎◌, ℕ, ◌<◌, ◌≤◌, List, [], ◌∷◌, ◌++◌, take, Option, Some, Result, MatchResult}
+use Rattle.std.specs.Prelude.{◌≡◌, ◌⊎◌, ℕ, ◌<◌, List, [], ◌∷◌, ◌++◌, take, Option, Some, Result, MatchResult, ◌==◌, if◌then◌else◌}
 use Rattle.pb_base.specs.World.{World, Sent, Quiet, stream_events, all_heard, sent}
-use Rattle.pb_io.specs.Faults.{Rose}
-use Rattle.pb_io.specs.Told.{Told}
+use Rattle.pb_io.specs.Faults.{counted}
+use Rattle.pb_io.specs.View.{View}
 
 -- A told world grows at its end by these events of the stream, in this order; events of the stations may stand before,
 -- between and behind them. It is told as before: the new one where the old one is, and the old one where the new one is.
@@ -18,10 +18,16 @@ Sends old new frame result = MatchResult result (λ _. GrowsBy old new (Sent fra
 abbrev pub Receives : {E : Type 0} → Option World → Option World → List ℕ → Result ℕ E → Type 0
 Receives old new given result = MatchResult result (λ n. (0 < n → GrowsBy old new (all_heard (take n given))) × (n ≡ 0 → GrowsBy old new (Quiet ∷ []))) (λ _. GrowsBy old new [])
 
--- a count of quiet ticks rises with a tick, and stays otherwise
+-- a count of quiet ticks goes up by one with a tick, and stays otherwise
 abbrev pub Ticks : {E : Type 0} → ℕ → ℕ → Result ℕ E → Type 0
-Ticks before now result = MatchResult result (λ n. (n ≡ 0 → Rose before now) × (0 < n → now ≡ before) × (before ≤ now)) (λ _. now ≡ before)
+Ticks before now result = MatchResult result (λ n. now ≡ (if n == 0 then counted before else before)) (λ _. now ≡ before)
 
--- the image stays, and the world is the one before with this frame sent once, or not at all
-abbrev pub SentOnce : List ℕ → Told → World → List ℕ → Type 0
-SentOnce frame old w c = old.image c × ((v more : World) × (old.link.world ≡ Some v) × (w ≡ v ++ more) × ((sent more ≡ []) ⊎ (sent more ≡ frame ∷ [])))
+-- the image stays, and the world is the one before with a prefix of these frames sent
+pub record SendsAtMost (frames : List (List ℕ)) (old : View) (w : World) (c : List ℕ) : Type 0 where
+  pub image : old.image c
+  pub before : World
+  pub more : World
+  pub known : old.link.world ≡ Some before
+  pub is : w ≡ before ++ more
+  pub rest : List (List ℕ)
+  pub prefix : sent more ++ rest ≡ frames

@@ -84,7 +84,7 @@ impl ChangeLog {
     }
 
     /// The n-th frame that was sent, from 0; `None` where there are fewer.
-    #[tactic(auto, using(crate::proofs::ChangeLogLemmas::world_told))]
+    #[tactic(auto, using(crate::proofs::ChangeLogLemmas::world_kept))]
     pub fn frame(&self, n: usize) -> Option<&[u8]>
         ensures { option_copied result ≡ slice_get (sent (world_of self.now)) n }
     {

@@ -1,9 +1,9 @@
 ghost use Rattle.std.specs.Prelude.{◌≡◌, ℕ, ◌+◌, ◌^◌, ◌≤◌, List, length, take, drop, Some, IfOk, OnOk, OnErr, IfSome};
 ghost use Rattle.std.specs.Option.{ForSome, option_map};
 ghost use Rattle.pb_io.specs.Crash.{overlaid, Torn, Shortened, Follows, Within, Changes};
-ghost use Rattle.pb_io.specs.Disk.{Looks};
+ghost use Rattle.pb_io.specs.Disk.{ReadsOnly};
 ghost use Rattle.pb_io.specs.Faults.{HasCause};
-ghost use Rattle.pb_io.specs.Told.{Told, IsLawful, Elapses};
+ghost use Rattle.pb_io.specs.View.{View, IsLawful, Elapses};
 
 use crate::Failed;
 
@@ -14,59 +14,59 @@ use crate::Failed;
 pub trait Disk {
     /// The file, what a crash may leave of it, the count of failed disk calls, the clock, and what the link tells.
     /// Counts don't fall, and stand still at 2^64 - 1.
-    ghost told: { Self → Told };
+    ghost view: { Self → View };
 
     /// The length of the file in bytes.
     fn len(&mut self) -> Result<u64, Failed>
-        ensures value { IfOk result (λ n. IfSome (told self.old).file (λ f. n ≡ length f)) }
-        ensures disk { Looks (told self.old) (told self.new) }
-        ensures link { (told self.new).link ≡ (told self.old).link }
-        ensures time { Elapses (told self.old) (told self.new) }
-        ensures cause { HasCause (told self.old).faults (told self.new).faults result };
+        ensures value { IfOk result (λ n. IfSome (view self.old).file (λ f. n ≡ length f)) }
+        ensures disk { ReadsOnly (view self.old) (view self.new) }
+        ensures link { (view self.new).link ≡ (view self.old).link }
+        ensures time { Elapses (view self.old) (view self.new) }
+        ensures cause { HasCause (view self.old).faults (view self.new).faults result };
 
     /// Fills `to` with the bytes from `at` on, which lie in the file. Where it fails, `to` may hold any bytes.
     fn read_at(&mut self, at: u64, to: &mut [u8]) -> Result<(), Failed>
-        requires { ForSome (told self.old).file (λ f. at + length to.old ≤ length f) }
-        ensures bytes { OnOk result (IfSome (told self.old).file (λ f. to.new ≡ take (length to.old) (drop at f))) }
-        ensures disk { Looks (told self.old) (told self.new) }
-        ensures link { (told self.new).link ≡ (told self.old).link }
-        ensures time { Elapses (told self.old) (told self.new) }
-        ensures cause { HasCause (told self.old).faults (told self.new).faults result };
+        requires { ForSome (view self.old).file (λ f. at + length to.old ≤ length f) }
+        ensures bytes { OnOk result (IfSome (view self.old).file (λ f. to.new ≡ take (length to.old) (drop at f))) }
+        ensures disk { ReadsOnly (view self.old) (view self.new) }
+        ensures link { (view self.new).link ≡ (view self.old).link }
+        ensures time { Elapses (view self.old) (view self.new) }
+        ensures cause { HasCause (view self.old).faults (view self.new).faults result };
 
     /// Writes over what is there from `at` on, and past the end; `at` isn't above the length. A write that would end
     /// above 2^62 fails. After a write that fails its range may hold any bytes, and the file may have any length
     /// between the old and the new one.
     fn write_at(&mut self, at: u64, from: &[u8]) -> Result<(), Failed>
-        requires { ForSome (told self.old).file (λ f. at ≤ length f) }
-        ensures written { OnOk result ((told self.new).file ≡ option_map (λ f. overlaid f at from.now) (told self.old).file) }
+        requires { ForSome (view self.old).file (λ f. at ≤ length f) }
+        ensures written { OnOk result ((view self.new).file ≡ option_map (λ f. overlaid f at from.now) (view self.old).file) }
         ensures bound { OnOk result (at + length from.now ≤ 2 ^ 62) }
-        ensures file { Changes (Torn at (length from.now)) (told self.old).file (told self.new).file }
-        ensures images { Follows (Torn at (length from.now)) (told self.old).image (told self.new).image }
-        ensures link { (told self.new).link ≡ (told self.old).link }
-        ensures time { Elapses (told self.old) (told self.new) }
-        ensures cause { HasCause (told self.old).faults (told self.new).faults result };
+        ensures file { Changes (Torn at (length from.now)) (view self.old).file (view self.new).file }
+        ensures images { Follows (Torn at (length from.now)) (view self.old).image (view self.new).image }
+        ensures link { (view self.new).link ≡ (view self.old).link }
+        ensures time { Elapses (view self.old) (view self.new) }
+        ensures cause { HasCause (view self.old).faults (view self.new).faults result };
 
     /// Cuts the file to `len` bytes, which isn't above its length. After a cut that fails the file may have any length
     /// between, and any bytes past `len`.
     fn cut(&mut self, len: u64) -> Result<(), Failed>
-        requires { ForSome (told self.old).file (λ f. len ≤ length f) }
-        ensures shortened { OnOk result ((told self.new).file ≡ option_map (λ f. take len f) (told self.old).file) }
-        ensures file { Changes (Shortened len) (told self.old).file (told self.new).file }
-        ensures images { Follows (Shortened len) (told self.old).image (told self.new).image }
-        ensures link { (told self.new).link ≡ (told self.old).link }
-        ensures time { Elapses (told self.old) (told self.new) }
-        ensures cause { HasCause (told self.old).faults (told self.new).faults result };
+        requires { ForSome (view self.old).file (λ f. len ≤ length f) }
+        ensures shortened { OnOk result ((view self.new).file ≡ option_map (λ f. take len f) (view self.old).file) }
+        ensures file { Changes (Shortened len) (view self.old).file (view self.new).file }
+        ensures images { Follows (Shortened len) (view self.old).image (view self.new).image }
+        ensures link { (view self.new).link ≡ (view self.old).link }
+        ensures time { Elapses (view self.old) (view self.new) }
+        ensures cause { HasCause (view self.old).faults (view self.new).faults result };
 
     /// After it, a crash leaves the file as it reads. Where it fails, nothing more is settled than before.
     fn sync(&mut self) -> Result<(), Failed>
-        ensures settled { OnOk result ((c : List ℕ) → (told self.new).image c → (told self.new).file ≡ Some c) }
-        ensures unsettled { OnErr result (Within (told self.new).image (told self.old).image) }
-        ensures file { (told self.new).file ≡ (told self.old).file }
-        ensures images { Within (told self.old).image (told self.new).image }
-        ensures link { (told self.new).link ≡ (told self.old).link }
-        ensures time { Elapses (told self.old) (told self.new) }
-        ensures cause { HasCause (told self.old).faults (told self.new).faults result };
+        ensures settled { OnOk result ((c : List ℕ) → (view self.new).image c → (view self.new).file ≡ Some c) }
+        ensures unsettled { OnErr result (Within (view self.new).image (view self.old).image) }
+        ensures file { (view self.new).file ≡ (view self.old).file }
+        ensures images { Within (view self.old).image (view self.new).image }
+        ensures link { (view self.new).link ≡ (view self.old).link }
+        ensures time { Elapses (view self.old) (view self.new) }
+        ensures cause { HasCause (view self.old).faults (view self.new).faults result };
 
     /// What is so of a disk at every moment.
-    ghost lawful: { (d : Self) → IsLawful (told d) };
+    ghost lawful: { (d : Self) → IsLawful (view d) };
 }

@@ -1,6 +1,7 @@
 // Which calls of a form in memory fail.
-ghost use Rattle.std.specs.Prelude.{◌≡◌, ◌≤◌, IfOk, is_err, true};
-ghost use Rattle.pb_io.specs.Calls.{counted, is_listed, after_call, no_calls};
+ghost use Rattle.std.specs.Prelude.{◌≡◌, ◌≤◌, IfOk, is_err};
+ghost use Rattle.pb_io.specs.Calls.{is_listed, after_call, no_calls};
+ghost use Rattle.pb_io.specs.Faults.{counted};
 
 use crate::Failed;
 use std::alloc::{AllocError, Global};
@@ -44,15 +45,6 @@ impl FaultPlan {
             return Err(self.fault());
         }
         Ok(())
-    }
-
-    /// Counts a call that fails.
-    pub fn refuse(&mut self) -> Failed
-        ensures counted { self.new ≡ after_call self.old true }
-        ensures later { self.old.faults ≤ self.new.faults }
-    {
-        self.made = self.made.saturating_add(1);
-        self.fault()
     }
 
     /// Counts a fault.

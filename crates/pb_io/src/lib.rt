@@ -2,7 +2,6 @@
 #![tactic(auto)]
 
 mod change_log;
-mod copy;
 mod disk;
 mod failed;
 mod fault_plan;
@@ -16,9 +15,7 @@ mod settled;
 mod sink;
 mod site;
 mod source;
-mod turn;
 
-pub use copy::{CopyFault, copy_all};
 pub use disk::Disk;
 pub use failed::Failed;
 pub use history::history_goes_on;
@@ -30,7 +27,6 @@ pub use settled::{write_in_order, write_settled};
 pub use sink::{Sink, put_all};
 pub use site::Site;
 pub use source::Source;
-pub use turn::send_and_recv;
 
 #[cfg(test)]
 mod tests;

@@ -4,11 +4,11 @@ ghost use Rattle.pb_base.specs.World.{Sent, sent};
 ghost use Rattle.pb_io.specs.Calls.{is_listed, after_call, no_calls};
 ghost use Rattle.pb_io.specs.ChangeLog.{arrival};
 ghost use Rattle.pb_io.specs.Crash.{overlaid, Torn, Shortened, Follows, Within, Changes};
-ghost use Rattle.pb_io.specs.Disk.{Looks};
+ghost use Rattle.pb_io.specs.Disk.{ReadsOnly};
 ghost use Rattle.pb_io.specs.DiskLaws.{disk_is_lawful};
-ghost use Rattle.pb_io.specs.DiskLog.{Linked, file_of, world_of, tells};
+ghost use Rattle.pb_io.specs.DiskLog.{Linked, file_of, world_of, disk_view};
 ghost use Rattle.pb_io.specs.Faults.{HasCause};
-ghost use Rattle.pb_io.specs.Told.{Elapses};
+ghost use Rattle.pb_io.specs.View.{Elapses};
 
 use crate::change_log::ChangeLog;
 use crate::fault_plan::FaultPlan;
@@ -103,13 +103,13 @@ fn overlay(bytes: &mut Vec<u8>, at: usize, from: &[u8])
 }
 
 impl Disk for MemDisk {
-    ghost told = { λ d. tells d 0 0 };
+    ghost view = { λ d. disk_view d 0 0 };
 
     fn len(&mut self) -> Result<u64, Failed>
         ensures value { IfOk result (λ n. n ≡ length (file_of self.old.first self.old.changes)) }
-        ensures disk { Looks (tells self.old 0 0) (tells self.new 0 0) }
-        ensures link { (tells self.new 0 0).link ≡ (tells self.old 0 0).link }
-        ensures time { Elapses (tells self.old 0 0) (tells self.new 0 0) }
+        ensures disk { ReadsOnly (disk_view self.old 0 0) (disk_view self.new 0 0) }
+        ensures link { (disk_view self.new 0 0).link ≡ (disk_view self.old 0 0).link }
+        ensures time { Elapses (disk_view self.old 0 0) (disk_view self.new 0 0) }
         ensures cause { HasCause self.old.calls.faults self.new.calls.faults result }
         ensures listed { is_err result ≡ is_listed self.old.calls }
         ensures calls { self.new.calls ≡ after_call self.old.calls (is_err result) }
@@ -121,9 +121,9 @@ impl Disk for MemDisk {
     fn read_at(&mut self, at: u64, to: &mut [u8]) -> Result<(), Failed>
         requires { at + length to.old ≤ length (file_of self.old.first self.old.changes) }
         ensures bytes { OnOk result (to.new ≡ take (length to.old) (drop at (file_of self.old.first self.old.changes))) }
-        ensures disk { Looks (tells self.old 0 0) (tells self.new 0 0) }
-        ensures link { (tells self.new 0 0).link ≡ (tells self.old 0 0).link }
-        ensures time { Elapses (tells self.old 0 0) (tells self.new 0 0) }
+        ensures disk { ReadsOnly (disk_view self.old 0 0) (disk_view self.new 0 0) }
+        ensures link { (disk_view self.new 0 0).link ≡ (disk_view self.old 0 0).link }
+        ensures time { Elapses (disk_view self.old 0 0) (disk_view self.new 0 0) }
         ensures cause { HasCause self.old.calls.faults self.new.calls.faults result }
         ensures listed { is_err result ≡ is_listed self.old.calls }
         ensures calls { self.new.calls ≡ after_call self.old.calls (is_err result) }
@@ -137,12 +137,12 @@ impl Disk for MemDisk {
     /// Takes memory; a call that finds none is a counted fault and changes nothing.
     fn write_at(&mut self, at: u64, from: &[u8]) -> Result<(), Failed>
         requires { at ≤ length (file_of self.old.first self.old.changes) }
-        ensures written { OnOk result ((tells self.new 0 0).file ≡ Some (overlaid (file_of self.old.first self.old.changes) at from.now)) }
+        ensures written { OnOk result ((disk_view self.new 0 0).file ≡ Some (overlaid (file_of self.old.first self.old.changes) at from.now)) }
         ensures bound { OnOk result (at + length from.now ≤ 2 ^ 62) }
-        ensures file { Changes (Torn at (length from.now)) (tells self.old 0 0).file (tells self.new 0 0).file }
-        ensures images { Follows (Torn at (length from.now)) (tells self.old 0 0).image (tells self.new 0 0).image }
-        ensures link { (tells self.new 0 0).link ≡ (tells self.old 0 0).link }
-        ensures time { Elapses (tells self.old 0 0) (tells self.new 0 0) }
+        ensures file { Changes (Torn at (length from.now)) (disk_view self.old 0 0).file (disk_view self.new 0 0).file }
+        ensures images { Follows (Torn at (length from.now)) (disk_view self.old 0 0).image (disk_view self.new 0 0).image }
+        ensures link { (disk_view self.new 0 0).link ≡ (disk_view self.old 0 0).link }
+        ensures time { Elapses (disk_view self.old 0 0) (disk_view self.new 0 0) }
         ensures cause { HasCause self.old.calls.faults self.new.calls.faults result }
         ensures listed { IsTrue (is_listed self.old.calls) → IsErr result }
         ensures calls { self.new.calls ≡ after_call self.old.calls (is_err result) }
@@ -165,11 +165,11 @@ impl Disk for MemDisk {
     /// Takes memory; a call that finds none is a counted fault and changes nothing.
     fn cut(&mut self, len: u64) -> Result<(), Failed>
         requires { len ≤ length (file_of self.old.first self.old.changes) }
-        ensures shortened { OnOk result ((tells self.new 0 0).file ≡ Some (take len (file_of self.old.first self.old.changes))) }
-        ensures file { Changes (Shortened len) (tells self.old 0 0).file (tells self.new 0 0).file }
-        ensures images { Follows (Shortened len) (tells self.old 0 0).image (tells self.new 0 0).image }
-        ensures link { (tells self.new 0 0).link ≡ (tells self.old 0 0).link }
-        ensures time { Elapses (tells self.old 0 0) (tells self.new 0 0) }
+        ensures shortened { OnOk result ((disk_view self.new 0 0).file ≡ Some (take len (file_of self.old.first self.old.changes))) }
+        ensures file { Changes (Shortened len) (disk_view self.old 0 0).file (disk_view self.new 0 0).file }
+        ensures images { Follows (Shortened len) (disk_view self.old 0 0).image (disk_view self.new 0 0).image }
+        ensures link { (disk_view self.new 0 0).link ≡ (disk_view self.old 0 0).link }
+        ensures time { Elapses (disk_view self.old 0 0) (disk_view self.new 0 0) }
         ensures cause { HasCause self.old.calls.faults self.new.calls.faults result }
         ensures listed { IsTrue (is_listed self.old.calls) → IsErr result }
         ensures calls { self.new.calls ≡ after_call self.old.calls (is_err result) }
@@ -185,12 +185,12 @@ impl Disk for MemDisk {
 
     /// Takes memory; a call that finds none is a counted fault and settles nothing.
     fn sync(&mut self) -> Result<(), Failed>
-        ensures settled { OnOk result ((c : List ℕ) → (tells self.new 0 0).image c → (tells self.new 0 0).file ≡ Some c) }
-        ensures unsettled { OnErr result (Within (tells self.new 0 0).image (tells self.old 0 0).image) }
-        ensures file { (tells self.new 0 0).file ≡ (tells self.old 0 0).file }
-        ensures images { Within (tells self.old 0 0).image (tells self.new 0 0).image }
-        ensures link { (tells self.new 0 0).link ≡ (tells self.old 0 0).link }
-        ensures time { Elapses (tells self.old 0 0) (tells self.new 0 0) }
+        ensures settled { OnOk result ((c : List ℕ) → (disk_view self.new 0 0).image c → (disk_view self.new 0 0).file ≡ Some c) }
+        ensures unsettled { OnErr result (Within (disk_view self.new 0 0).image (disk_view self.old 0 0).image) }
+        ensures file { (disk_view self.new 0 0).file ≡ (disk_view self.old 0 0).file }
+        ensures images { Within (disk_view self.old 0 0).image (disk_view self.new 0 0).image }
+        ensures link { (disk_view self.new 0 0).link ≡ (disk_view self.old 0 0).link }
+        ensures time { Elapses (disk_view self.old 0 0) (disk_view self.new 0 0) }
         ensures cause { HasCause self.old.calls.faults self.new.calls.faults result }
         ensures listed { IsTrue (is_listed self.old.calls) → IsErr result }
         ensures calls { self.new.calls ≡ after_call self.old.calls (is_err result) }

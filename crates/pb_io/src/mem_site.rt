@@ -2,14 +2,14 @@ ghost use Rattle.std.specs.Prelude.{◌≡◌, ◌<◌, ◌≤◌, min, [], ◌�
 ghost use Rattle.std.specs.Option.{option_copied};
 ghost use Rattle.pb_base.specs.World.{sent};
 ghost use Rattle.pb_io.specs.Calls.{is_listed, after_call, no_calls};
-ghost use Rattle.pb_io.specs.Disk.{Looks};
+ghost use Rattle.pb_io.specs.Disk.{ReadsOnly};
 ghost use Rattle.pb_io.specs.DiskLaws.{disk_is_lawful};
 ghost use Rattle.pb_io.specs.DiskLog.{world_of};
 ghost use Rattle.pb_io.specs.Faults.{HasCause};
 ghost use Rattle.pb_io.specs.Inbox.{next_piece, without};
-ghost use Rattle.pb_io.specs.InMemory.{told_by};
+ghost use Rattle.pb_io.specs.InMemory.{site_view};
 ghost use Rattle.pb_io.specs.Site.{Sends, Receives, Ticks};
-ghost use Rattle.pb_io.specs.Told.{Elapses};
+ghost use Rattle.pb_io.specs.View.{Elapses};
 
 use crate::fault_plan::FaultPlan;
 use crate::inbox::Inbox;
@@ -70,7 +70,7 @@ impl MemSite {
 }
 
 impl Disk for MemSite {
-    ghost told = { told_by };
+    ghost view = { site_view };
 
     fn len(&mut self) -> Result<u64, Failed> {
         self.disk.len()
@@ -98,11 +98,11 @@ impl Disk for MemSite {
 impl Site for MemSite {
     /// Takes memory; a call that finds none is a counted fault and sends nothing.
     fn send(&mut self, frame: &[u8]) -> Result<(), Failed>
-        ensures world { Sends (told_by self.old).link.world (told_by self.new).link.world frame.now result }
+        ensures world { Sends (site_view self.old).link.world (site_view self.new).link.world frame.now result }
         ensures quiets { self.new.quiets ≡ self.old.quiets }
-        ensures disk { Looks (told_by self.old) (told_by self.new) }
+        ensures disk { ReadsOnly (site_view self.old) (site_view self.new) }
         ensures disk_faults { self.new.disk.calls.faults ≡ self.old.disk.calls.faults }
-        ensures time { Elapses (told_by self.old) (told_by self.new) }
+        ensures time { Elapses (site_view self.old) (site_view self.new) }
         ensures cause { HasCause self.old.calls.faults self.new.calls.faults result }
         ensures listed { IsTrue (is_listed self.old.calls) → IsErr result }
         ensures calls { self.new.calls ≡ after_call self.old.calls (is_err result) }
@@ -119,11 +119,11 @@ impl Site for MemSite {
     /// Takes memory; a call that finds none is a counted fault and takes nothing.
     fn recv(&mut self, to: &mut [u8]) -> Result<usize, Failed>
         ensures bound { IfOk result (λ n. n ≤ length to.old) }
-        ensures world { Receives (told_by self.old).link.world (told_by self.new).link.world to.new result }
+        ensures world { Receives (site_view self.old).link.world (site_view self.new).link.world to.new result }
         ensures quiets { Ticks self.old.quiets self.new.quiets result }
-        ensures disk { Looks (told_by self.old) (told_by self.new) }
+        ensures disk { ReadsOnly (site_view self.old) (site_view self.new) }
         ensures disk_faults { self.new.disk.calls.faults ≡ self.old.disk.calls.faults }
-        ensures time { Elapses (told_by self.old) (told_by self.new) }
+        ensures time { Elapses (site_view self.old) (site_view self.new) }
         ensures cause { HasCause self.old.calls.faults self.new.calls.faults result }
         ensures listed { IsTrue (is_listed self.old.calls) → IsErr result }
         ensures taken { IfOk result (λ n. (n ≡ min (length to.old) (length (next_piece self.old.waiting))) × (take n to.new ≡ take n (next_piece self.old.waiting)) × (self.new.waiting ≡ without n self.old.waiting)) }

@@ -1,7 +1,7 @@
-ghost use Rattle.std.specs.Prelude.{◌≡◌, ℕ, ◌<◌, ◌≤◌, min, length, IfOk, Some, is_err};
+ghost use Rattle.std.specs.Prelude.{◌≡◌, ◌==◌, ◌&&◌, ℕ, ◌<◌, ◌≤◌, min, length, IfOk, Some, is_err, nat_lt, if◌then◌else◌};
 ghost use Rattle.pb_io.specs.Calls.{is_listed, after_call, no_calls};
-ghost use Rattle.pb_io.specs.Faults.{HasCause};
-ghost use Rattle.pb_io.specs.Source.{Reads};
+ghost use Rattle.pb_io.specs.Faults.{HasCause, counted};
+ghost use Rattle.pb_io.specs.Source.{CountsEnds, Reads};
 
 use crate::fault_plan::FaultPlan;
 use crate::{Failed, Source};
@@ -15,6 +15,7 @@ pub struct MemSource {
     bytes: Vec<u8>,
     at: usize,
     piece: usize,
+    ends: u64,
     plan: FaultPlan,
 }
 
@@ -24,7 +25,7 @@ impl Model for MemSource {
 
     ghost Value = { Supply };
 
-    ghost view = { λ s. record { left = drop s.at s.bytes.items; piece = s.piece; calls = s.plan } };
+    ghost view = { λ s. record { left = drop s.at s.bytes.items; piece = s.piece; ends = s.ends; calls = s.plan } };
 
     ghost invariant = { λ s. (s.at ≤ length s.bytes.items) × (1 ≤ s.piece) };
 }
@@ -39,12 +40,13 @@ impl MemSource {
         fails: &[u64],
     ) -> Result<MemSource, Memory>
         requires { 1 ≤ piece }
-        ensures { IfOk result (λ s. s ≡ record { left = bytes.now; piece = piece; calls = no_calls fails.now }) }
+        ensures { IfOk result (λ s. s ≡ record { left = bytes.now; piece = piece; ends = 0; calls = no_calls fails.now }) }
     {
         Ok(MemSource {
             bytes: Vec::from_slice(alloc, bytes).map_err(|_| Memory)?,
             at: 0,
             piece,
+            ends: 0,
             plan: FaultPlan::new(alloc, fails).map_err(|_| Memory)?,
         })
     }
@@ -53,11 +55,14 @@ impl MemSource {
 impl Source for MemSource {
     ghost left = { λ s. Some s.left };
 
+    ghost ends = { λ s. s.ends };
+
     ghost read_faults = { λ s. s.calls.faults };
 
     fn read(&mut self, to: &mut [u8]) -> Result<usize, Failed>
         ensures bound { IfOk result (λ n. n ≤ length to.old) }
         ensures bytes { Reads (Some self.old.left) (Some self.new.left) to.new result }
+        ensures ends { CountsEnds self.old.ends self.new.ends to.old result }
         ensures cause { HasCause self.old.calls.faults self.new.calls.faults result }
         ensures listed { is_err result ≡ is_listed self.old.calls }
         ensures taken { IfOk result (λ n. n ≡ min self.old.piece (min (length to.old) (length self.old.left))) }
@@ -69,6 +74,18 @@ impl Source for MemSource {
         let n = self.piece.min(to.len()).min(rest.len());
         to[..n].copy_from_slice(&rest[..n]);
         self.at += n;
+        self.ends = ends_after(self.ends, n, to.len());
         Ok(n)
+    }
+}
+
+// The count of ends after a read that gave so many bytes into so much room.
+fn ends_after(ends: u64, given: usize, room: usize) -> u64
+    ensures { result ≡ (if given == 0 && nat_lt 0 room then counted ends else ends) }
+{
+    if given == 0 && room > 0 {
+        ends.saturating_add(1)
+    } else {
+        ends
     }
 }

@@ -1,7 +1,7 @@
 ghost use Rattle.std.specs.Prelude.{◌≡◌, ℕ, ◌<◌, ◌≤◌, List, length, Option, IfOk, OnOk, OnErr};
 ghost use Rattle.std.specs.Io.KnownBytes.{Appends};
 ghost use Rattle.pb_io.specs.Faults.{HasCause};
-ghost use Rattle.pb_io.specs.Sink.{Writes, AppendsFront};
+ghost use Rattle.pb_io.specs.Sink.{Writes, AppendsPrefix};
 
 use crate::Failed;
 
@@ -24,7 +24,7 @@ pub trait Sink {
 /// Writes all of `text`. Where a write fails, a front of it was written.
 pub fn put_all<O: Sink>(out: &mut O, text: &[u8]) -> Result<(), Failed>
     ensures all { OnOk result (Appends (O.written out.old) (O.written out.new) text.now) }
-    ensures front { OnErr result (AppendsFront (O.written out.old) (O.written out.new) text.now) }
+    ensures front { OnErr result (AppendsPrefix (O.written out.old) (O.written out.new) text.now) }
     ensures cause { HasCause (O.write_faults out.old) (O.write_faults out.new) result }
 {
     let mut done = 0;

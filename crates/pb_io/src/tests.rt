@@ -1,37 +1,31 @@
 use super::*;
-use pb_base::Memory;
-use std::alloc::Global;
 use std::test::Fail;
 
-// Copies seven bytes in pieces of at most three through a room of four, with a fault at one read and one write.
-fn copied(
-    alloc: Global,
-    read_fault: u64,
-    write_fault: u64,
-    limit: u64,
-) -> Result<(Result<u64, CopyFault>, MemSink), Memory> {
-    let mut source = MemSource::new(alloc, b"PakBus!", 3, &[read_fault])?;
-    let mut sink = MemSink::new(alloc, &[write_fault])?;
-    let result = copy_all(&mut source, &mut sink, &mut [0; 4], limit);
-    Ok((result, sink))
+#[test]
+fn a_source_in_memory_gives_its_bytes_in_chunks(rt: HostRuntime) -> Result<(), Fail> {
+    let mut source = MemSource::new(rt.alloc(), b"PakBus!", 3, &[1])?;
+    let mut room = [0; 4];
+    for (given, bytes) in [
+        (Ok(3), b"Pak".as_slice()),
+        (Err(Failed), b""),
+        (Ok(3), b"Bus"),
+        (Ok(1), b"!"),
+        (Ok(0), b""),
+    ] {
+        assert_eq!(rt; source.read(&mut room), given);
+        assert_eq!(rt; &room[..bytes.len()], bytes);
+    }
+    assert_eq!(rt; source.read(&mut []), Ok(0));
+    Ok(())
 }
 
-const NEVER: u64 = 99;
-
 #[test]
-fn a_source_in_memory_goes_to_a_sink_in_memory(rt: HostRuntime) -> Result<(), Fail> {
-    for (read_fault, write_fault, limit, result, bytes) in [
-        (NEVER, NEVER, 7, Ok(7), b"PakBus!".as_slice()),
-        (NEVER, NEVER, 6, Err(CopyFault::TooLong), b"PakBus"),
-        (3, NEVER, 7, Err(CopyFault::Read), b"PakBus!"),
-        (1, NEVER, 7, Err(CopyFault::Read), b"Pak"),
-        (NEVER, 1, 7, Err(CopyFault::Write), b"Pak"),
-        (0, 0, 0, Err(CopyFault::Read), b""),
-    ] {
-        let (was, sink) = copied(rt.alloc(), read_fault, write_fault, limit)?;
-        assert_eq!(rt; was, result);
-        assert_eq!(rt; sink.bytes(), bytes);
-    }
+fn a_sink_in_memory_takes_whole_texts(rt: HostRuntime) -> Result<(), Fail> {
+    let mut sink = MemSink::new(rt.alloc(), &[1])?;
+    assert_eq!(rt; put_all(&mut sink, b"Pak"), Ok(()));
+    assert_eq!(rt; put_all(&mut sink, b"lost"), Err(Failed));
+    assert_eq!(rt; put_all(&mut sink, b"Bus"), Ok(()));
+    assert_eq!(rt; sink.bytes(), b"PakBus".as_slice());
     Ok(())
 }
 
@@ -64,18 +58,6 @@ fn a_site_in_memory_hears_its_pieces_in_order(rt: HostRuntime) -> Result<(), Fai
     assert_eq!(rt; site.sent(0), Some(b"two".as_slice()));
     assert_eq!(rt; site.sent(1), Some(b"three".as_slice()));
     assert_eq!(rt; site.sent(2), None);
-    Ok(())
-}
-
-#[test]
-fn a_frame_is_answered(rt: HostRuntime) -> Result<(), Fail> {
-    let alloc = rt.alloc();
-    let mut site = MemSite::new(alloc, MemDisk::new(alloc, b"", &[])?, &[])?;
-    site.hears(b"pong")?;
-    let mut room = [0; 16];
-    assert_eq!(rt; send_and_recv(&mut site, b"ping", &mut room), Ok(4));
-    assert_eq!(rt; &room[..4], b"pong".as_slice());
-    assert_eq!(rt; site.sent(0), Some(b"ping".as_slice()));
     Ok(())
 }
 

@@ -1,4 +1,4 @@
-use Rattle.std.proofs.Common.{length, ◌-◌, ◌≤◌, take}
+use Rattle.std.proofs.Common.{length, ◌-◌, ◌≤◌, ◌≡◌, take}
 use Rattle.std.specs.Io.KnownBytes.{Appends}
 use Rattle.pb_io.proofs.sink.put_all.Given as goal
 
@@ -6,7 +6,7 @@ abbrev pub invariant-loop-done : goal.invariant-loop-done
 invariant-loop-done g l = record {
   within : l.done ≤ length l.text;
   bytes : Appends (g.O.Sink.written l.fn.out) (g.O.Sink.written l.out) (take l.done l.text);
-  later : g.O.Sink.write_faults l.fn.out ≤ g.O.Sink.write_faults l.out;
+  kept : g.O.Sink.write_faults l.out ≡ g.O.Sink.write_faults l.fn.out;
 }
 
 abbrev pub decreases-loop-done : goal.decreases-loop-done
