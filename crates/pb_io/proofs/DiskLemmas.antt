@@ -1,7 +1,7 @@
--- What the calls of a disk in memory do to what it tells.
-use Rattle.std.proofs.Common.{◌≡◌, inl, inr, ⊎_elim, ℕ, ◌+◌, ◌^◌, ◌≤◌, List, [], ◌∷◌, length, Some, refl, sym, ◌∙◌, ap, subst, arith}
+-- What the calls of a disk in memory do to what it reports.
+use Rattle.std.proofs.Common.{◌≡◌, inl, inr, ⊎_elim, ℕ, ◌+◌, ◌≤◌, List, [], ◌∷◌, length, Some, refl, sym, ◌∙◌, ap, subst, arith}
 use Rattle.std.proofs.lemmas.Option.{same_Some}
-use Rattle.pb_io.specs.Crash.{Torn, Shortened, Follows, Changes}
+use Rattle.pb_io.specs.Crash.{max_file_len, Torn, Shortened, Follows, Changes}
 use Rattle.pb_io.specs.Disk.{ReadsOnly}
 use Rattle.pb_io.specs.DiskLaws.{overlaid-torn, take-shortened, file_wrote, file-image, first_whole}
 use Rattle.pb_io.specs.DiskLog.{Change, Wrote, Cut, Synced, Linked, file_of, image_of, DiskLog, disk_view}
@@ -34,7 +34,7 @@ pub looks-linked : (old new : DiskLog) (events : List _) (a b m n : ℕ) → new
 looks-linked old new events a b m n first changes =
     logged new old.first (Linked events ∷ old.changes) (λ d. ReadsOnly (disk_view old a b) (disk_view d m n)) first changes (record { file = refl; fewer = λ c is. is; more = λ c is. is })
 
--- a told file makes a step
+-- a known file makes a step
 changes_step : (step : List ℕ → List ℕ → Type 0) (f g : List ℕ) → step f g → Changes step (Some f) (Some g)
 changes_step step f g made = record {
   on = λ h is. (g, refl, subst (λ x. step x g) (same_Some f h is) made);
@@ -43,11 +43,11 @@ changes_step step f g made = record {
 
 pub kept-torn : (old new : DiskLog) (at size a b m n : ℕ) → new.first ≡ old.first → new.changes ≡ old.changes → Changes (Torn at size) (disk_view old a b).file (disk_view new m n).file
 kept-torn old new at size a b m n first changes =
-    logged new old.first old.changes (λ d. Changes (Torn at size) (disk_view old a b).file (disk_view d m n).file) first changes (changes_step (Torn at size) _ _ (record { before = refl; behind = refl; no_shorter = omega arith }))
+    logged new old.first old.changes (λ d. Changes (Torn at size) (disk_view old a b).file (disk_view d m n).file) first changes (changes_step (Torn at size) _ _ (record { before = refl; after = refl; no_shorter = omega arith }))
 
 pub kept-images-torn : (old new : DiskLog) (at size a b m n : ℕ) → new.first ≡ old.first → new.changes ≡ old.changes → Follows (Torn at size) (disk_view old a b).image (disk_view new m n).image
 kept-images-torn old new at size a b m n first changes =
-    logged new old.first old.changes (λ d. Follows (Torn at size) (disk_view old a b).image (disk_view d m n).image) first changes (λ c is. (c, is, record { before = refl; behind = refl; no_shorter = omega arith }))
+    logged new old.first old.changes (λ d. Follows (Torn at size) (disk_view old a b).image (disk_view d m n).image) first changes (λ c is. (c, is, record { before = refl; after = refl; no_shorter = omega arith }))
 
 pub kept-shortened : (old new : DiskLog) (len a b m n : ℕ) → new.first ≡ old.first → new.changes ≡ old.changes → Changes (Shortened len) (disk_view old a b).file (disk_view new m n).file
 kept-shortened old new len a b m n first changes =
@@ -57,7 +57,7 @@ pub kept-images-shortened : (old new : DiskLog) (len a b m n : ℕ) → new.firs
 kept-images-shortened old new len a b m n first changes =
     logged new old.first old.changes (λ d. Follows (Shortened len) (disk_view old a b).image (disk_view d m n).image) first changes (λ c is. (c, is, record { before = refl; no_longer = omega arith }))
 
-pub wrote-file : (old new : DiskLog) (at : ℕ) (bytes : List ℕ) (a b m n : ℕ) → new.first ≡ old.first → new.changes ≡ Wrote at bytes ∷ old.changes → at ≤ length (file_of old.first old.changes) → at + length bytes ≤ 2 ^ 62
+pub wrote-file : (old new : DiskLog) (at : ℕ) (bytes : List ℕ) (a b m n : ℕ) → new.first ≡ old.first → new.changes ≡ Wrote at bytes ∷ old.changes → at ≤ length (file_of old.first old.changes) → at + length bytes ≤ max_file_len
     → Changes (Torn at (length bytes)) (disk_view old a b).file (disk_view new m n).file
 wrote-file old new at bytes a b m n first changes within short =
     logged new old.first (Wrote at bytes ∷ old.changes) (λ d. Changes (Torn at (length bytes)) (disk_view old a b).file (disk_view d m n).file) first changes
@@ -76,7 +76,7 @@ cut-images old new len a b m n first changes =
     logged new old.first (Cut len ∷ old.changes) (λ d. Follows (Shortened len) (disk_view old a b).image (disk_view d m n).image) first changes (λ c is. is)
 
 -- the same of the file alone
-pub wrote_file : (old : DiskLog) (first : List ℕ) (changes : List Change) (at : ℕ) (bytes : List ℕ) → first ≡ old.first → changes ≡ Wrote at bytes ∷ old.changes → at ≤ length (file_of old.first old.changes) → at + length bytes ≤ 2 ^ 62
+pub wrote_file : (old : DiskLog) (first : List ℕ) (changes : List Change) (at : ℕ) (bytes : List ℕ) → first ≡ old.first → changes ≡ Wrote at bytes ∷ old.changes → at ≤ length (file_of old.first old.changes) → at + length bytes ≤ max_file_len
     → Changes (Torn at (length bytes)) (Some (file_of old.first old.changes)) (Some (file_of first changes))
 wrote_file old first changes at bytes is_first is_changes within short =
     wrote-file old (record { first = first; changes = changes; calls = old.calls }) at bytes 0 0 0 0 is_first is_changes within short
@@ -87,6 +87,6 @@ synced_images old first changes is_first is_changes c image =
     let now : image_of old.first (Synced ∷ old.changes) c = subst (λ l. image_of old.first l c) is_changes (subst (λ f. image_of f changes c) is_first image) in
     subst (image_of old.first old.changes) (sym now) (file-image old.first old.changes)
 
-pub first_kept : (given bytes first : List ℕ) (changes : List Change) → bytes ≡ given → first ≡ given → changes ≡ [] → length given ≤ 2 ^ 62 → bytes ≡ file_of first changes
+pub first_kept : (given bytes first : List ℕ) (changes : List Change) → bytes ≡ given → first ≡ given → changes ≡ [] → length given ≤ max_file_len → bytes ≡ file_of first changes
 first_kept given bytes first changes is_bytes is_first none le =
     first_whole given bytes is_bytes le ∙ ap (λ f. file_of f []) (sym is_first) ∙ ap (file_of first) (sym none)

@@ -1,8 +1,9 @@
 mod ChangeLogLemmas
 pub mod CrashLemmas
-mod DiskLemmas
+pub mod DiskLemmas
 mod MemSiteLemmas
 pub mod Moments
+pub mod RunLemmas
 pub mod SinkLemmas
 pub mod SendLemmas
 mod SourceLemmas

@@ -1,14 +1,15 @@
 -- How what a crash may leave goes on from call to call.
-use Rattle.std.proofs.Common.{◌≡◌, Some, inl, inr, ⊎_elim, ℕ, ◌^◌, ◌≤◌, List, length, arith}
+use Rattle.std.proofs.Common.{◌≡◌, Some, inl, inr, ⊎_elim, ℕ, ◌≤◌, List, length, arith}
 use Rattle.pb_base.specs.World.{World}
+use Rattle.pb_io.specs.Crash.{max_file_len}
 use Rattle.pb_io.specs.View.{View, IsLawful, Elapses, LeavesOnly}
 
 -- each pair of this moment has P
 abbrev pub Now : View → (World → List ℕ → Type 0) → Type 0
 Now d P = (w : World) (c : List ℕ) → d.link.world ≡ Some w → d.image c → P w c
 
--- a told file isn't longer than a file can be
-pub file-short : (d : View) (f : List ℕ) → IsLawful d → d.file ≡ Some f → length f ≤ 2 ^ 62
+-- a known file isn't longer than a file can be
+pub file-short : (d : View) (f : List ℕ) → IsLawful d → d.file ≡ Some f → length f ≤ max_file_len
 file-short d f lawful is = lawful.short f (lawful.reads f is)
 
 -- before the first call

@@ -6,7 +6,7 @@ use Rattle.std.proofs.KnownBytes.{Appends-trans, Appends-kept}
 use Rattle.std.specs.Io.KnownBytes.{Appends, Keeps}
 use Rattle.pb_io.specs.Sink.{AppendsPrefix}
 
--- a write that fails leaves the front that the writes before it took
+-- a write that fails leaves the prefix that the writes before it took
 pub AppendsPrefix-kept : (a b c : Option (List ℕ)) (done : ℕ) (text : List ℕ) → Appends a b (take done text) → Keeps b c → AppendsPrefix a c text
 AppendsPrefix-kept a b c done text taken kept =
     (take done text, drop done text, sym (take-append-drop done text), Appends-kept a b c (take done text) taken kept)

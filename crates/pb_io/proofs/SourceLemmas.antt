@@ -1,4 +1,4 @@
--- How a read takes the front of what is left.
+-- How a read takes a prefix of what is left.
 use Rattle.std.proofs.Common.{◌≡◌, ℕ, ◌+◌, ◌<◌, ◌≤◌, min, List, [], ◌++◌, length, take, drop, sym, ◌∙◌, ap, arith, length-append, length-drop}
 use Rattle.std.proofs.lemmas.List.{take_at, take-append-drop, drop-drop, drop_all, length-take}
 
@@ -9,8 +9,8 @@ read_consumes all copied rest at n within is =
     ∙ ap (λ (l : List ℕ). l ++ drop n (drop at all)) (sym (take_at copied rest n long ∙ is))
     ∙ ap (λ (l : List ℕ). take n (copied ++ rest) ++ l) (drop-drop n at all)
 
-pub read_at_end : (all copied to : List ℕ) (at n piece : ℕ) → 1 ≤ piece → n ≡ min (min piece (length to)) (length (drop at all)) → copied ≡ take n (drop at all)
+pub read_at_end : (all copied to : List ℕ) (at n chunk : ℕ) → 1 ≤ chunk → n ≡ min (min chunk (length to)) (length (drop at all)) → copied ≡ take n (drop at all)
     → n ≡ 0 → 0 < length (copied ++ drop n to) → drop (at + n) all ≡ []
-read_at_end all copied to at n piece some is copies none room =
+read_at_end all copied to at n chunk some is copies none room =
     let long : length copied ≡ n = omega (arith, ap length copies, length-take n (drop at all)) in
     drop_all (at + n) all (omega (arith, long, length-append copied (drop n to), length-drop n to, length-drop at all))

@@ -23,7 +23,7 @@ greatest-append : (a b : World) → greatest_oldest a ≤ greatest_oldest (a ++ 
 greatest-append [] b = omega arith
 greatest-append (event ∷ rest) b = omega (arith, greatest-append rest b)
 
--- a front of a world has an earlier history
+-- a prefix of a world has an earlier history
 pub history-later : (w more : World) → Later (history w) (history (w ++ more))
 history-later w more key =
     let before = events_under key false w in
@@ -73,7 +73,7 @@ GrowsBy-trans a b c first second p q = record {
       (x.0, x.1 ++ y.1, x.2, y.3 ∙ ap (λ l. l ++ y.1) x.3 ∙ append_assoc x.0 x.1 y.1, filter-append is_of_stream x.1 y.1 ∙ ap (λ l. l ++ stream_events y.1) x.4 ∙ ap (λ l. first ++ l) y.4);
 }
 
--- a told world after link calls is the one before with the frames sent that these sent
+-- a known world after link calls is the one before with the frames sent that these sent
 pub sent-grown : (a b : Option World) (events v : World) → GrowsBy a b events → b ≡ Some v → (w more : World) × (a ≡ Some w) × (v ≡ w ++ more) × (sent more ≡ sent events)
 sent-grown a b events v grows is =
     let x = grows.back v is in
@@ -84,7 +84,7 @@ pub received : (old new : Option World) (given : List ℕ) (n : ℕ) → (0 < n 
 received old new given zero heard = (Quiet ∷ [], heard.1 refl, refl)
 received old new given (suc n) heard = (all_heard (take (suc n) given), heard.0 (omega arith), sent-heard (take (suc n) given))
 
--- a told world with events of the stream behind it
+-- a known world with events of the stream after it
 pub GrowsBy-known : (w v events : World) → v ≡ w ++ events → stream_events events ≡ events → GrowsBy (Some w) (Some v) events
 GrowsBy-known w v events is stream = record {
   on = λ u was. (events, ap (λ l. Some l) (is ∙ ap (λ l. l ++ events) (same_Some w u was)), stream);

@@ -14,7 +14,11 @@ is_listed calls = list_any (λ n. n == calls.made) calls.fails
 
 -- after one call more
 abbrev pub after_call : Calls → Bool → Calls
-after_call calls failed = record { fails = calls.fails; made = counted calls.made; faults = if failed then counted calls.faults else calls.faults }
+after_call calls failed = record {
+  fails = calls.fails;
+  made = counted calls.made;
+  faults = if failed then counted calls.faults else calls.faults;
+}
 
 -- before the first call
 abbrev pub no_calls : List ℕ → Calls

@@ -1,36 +1,36 @@
 -- How a disk in memory keeps what was done to it, and what a site in memory adds, the oldest first.
-use Rattle.std.specs.Prelude.{ℕ, List, [], ◌∷◌}
-use Rattle.std.specs.List.{flat_map}
+use Rattle.std.specs.Prelude.{ℕ, ◌+◌, List, [], ◌∷◌, take, drop}
 use Rattle.pb_base.specs.World.{World, Quiet, all_heard}
-use Rattle.pb_base.specs.World as world
 use Rattle.pb_io.specs.DiskLog.{Change, Linked}
 use Rattle.pb_io.specs.DiskLog as disk
+use Rattle.pb_io.specs.Events.{world_in}
 use Rattle.pb_io.specs.declared.change_log.Entry.{Entry}
 use Rattle.pb_io.specs.declared.change_log.Entry.TheVariants as entry
+use Rattle.pb_io.specs.declared.event.Event.{Event}
 
-abbrev pub change_of : Entry → Change
-change_of (entry.Wrote at bytes) = disk.Wrote at bytes.items
-change_of (entry.Cut len) = disk.Cut len
-change_of entry.Synced = disk.Synced
-change_of (entry.Sent frame) = Linked (world.Sent frame.items ∷ [])
-change_of (entry.Heard bytes) = Linked (all_heard bytes.items)
-change_of entry.Quiet = Linked (Quiet ∷ [])
+-- the change of an entry that takes these events
+abbrev pub change_of : Entry → World → Change
+change_of (entry.Wrote at bytes) events = disk.Wrote at bytes.items
+change_of (entry.Cut len) events = disk.Cut len
+change_of entry.Synced events = disk.Synced
+change_of (entry.Linked count) events = Linked events
 
--- the changes of these entries behind earlier ones, the newest first
-abbrev pub changes_behind : List Change → List Entry → List Change
-changes_behind earlier [] = earlier
-changes_behind earlier (entry ∷ rest) = changes_behind (change_of entry ∷ earlier) rest
+-- how many events an entry takes
+abbrev pub event_count : Entry → ℕ
+event_count (entry.Linked count) = count
+event_count (entry.Wrote at bytes) = 0
+event_count (entry.Cut len) = 0
+event_count entry.Synced = 0
 
-abbrev pub events_of : Entry → World
-events_of (entry.Sent frame) = world.Sent frame.items ∷ []
-events_of (entry.Heard bytes) = all_heard bytes.items
-events_of entry.Quiet = Quiet ∷ []
-events_of (entry.Wrote at bytes) = []
-events_of (entry.Cut len) = []
-events_of entry.Synced = []
+abbrev pub event_counts : List Entry → ℕ
+event_counts [] = 0
+event_counts (entry ∷ rest) = event_count entry + event_counts rest
 
-abbrev pub events_in : List Entry → World
-events_in entries = flat_map events_of entries
+-- The changes of these entries after earlier ones, the newest first. Each entry takes its number of the events.
+abbrev pub changes_after : List Change → List Event → List Entry → List Change
+changes_after earlier events [] = earlier
+changes_after earlier events (entry ∷ rest) =
+    changes_after (change_of entry (world_in (take (event_count entry) events)) ∷ earlier) (drop (event_count entry) events) rest
 
 -- what comes of a receive: one event for each byte, or a quiet tick where there's none
 abbrev pub arrival : List ℕ → World

@@ -1,4 +1,4 @@
--- What the calls of a disk do to what it tells.
+-- What the calls of a disk do to what it reports.
 use Rattle.std.specs.Prelude.{◌≡◌}
 use Rattle.pb_io.specs.Crash.{Within}
 use Rattle.pb_io.specs.View.{View}

@@ -1,11 +1,11 @@
 -- A disk in memory is lawful, whatever was done to it.
-use Rattle.std.specs.Prelude.{◌≡◌, ℕ, ◌+◌, ◌^◌, ◌≤◌, ◌&&◌, max, Bool, true, false, nat_le, if◌then◌else◌, List, [], ◌∷◌, ◌++◌, length, take, drop, Some, refl}
+use Rattle.std.specs.Prelude.{◌≡◌, ℕ, ◌+◌, ◌≤◌, ◌&&◌, max, Bool, true, false, nat_le, if◌then◌else◌, List, [], ◌∷◌, ◌++◌, length, take, drop, Some, refl}
 use Rattle.std.proofs.Common.{sym, ◌∙◌, ap, subst, inl, inr, arith, append_assoc, length-append, length-drop}
 use Rattle.std.proofs.lemmas.Bool.{leb-true, le-leb, cond-true}
 use Rattle.std.proofs.lemmas.List.{length-take, take_at, drop_at, take_all}
 use Rattle.std.proofs.lemmas.Option.{same_Some}
 use Rattle.pb_base.specs.World.{World}
-use Rattle.pb_io.specs.Crash.{overlaid, Torn, Shortened}
+use Rattle.pb_io.specs.Crash.{max_file_len, overlaid, Torn, Shortened}
 use Rattle.pb_io.specs.DiskLog.{Change, Wrote, Cut, Synced, Linked, fits, file_of, image_of, world_of, left_after, DiskLog, disk_view}
 use Rattle.pb_io.specs.View.{IsLawful}
 
@@ -15,11 +15,11 @@ length-overlaid f at bytes le =
 
 pub overlaid-torn : (f : List ℕ) (at : ℕ) (bytes : List ℕ) → at ≤ length f → Torn at (length bytes) f (overlaid f at bytes)
 overlaid-torn f at bytes le =
-    let front : length (take at f) ≡ at = omega (arith, length-take at f) in
-    let both : length (take at f ++ bytes) ≡ at + length bytes = omega (arith, length-append (take at f) bytes, front) in
+    let size : length (take at f) ≡ at = omega (arith, length-take at f) in
+    let both : length (take at f ++ bytes) ≡ at + length bytes = omega (arith, length-append (take at f) bytes, size) in
     record {
-      before = take_at (take at f) (bytes ++ drop (at + length bytes) f) at front;
-      behind = ap (drop (at + length bytes)) (sym (append_assoc (take at f) bytes (drop (at + length bytes) f))) ∙ drop_at (take at f ++ bytes) (drop (at + length bytes) f) (at + length bytes) both;
+      before = take_at (take at f) (bytes ++ drop (at + length bytes) f) at size;
+      after = ap (drop (at + length bytes)) (sym (append_assoc (take at f) bytes (drop (at + length bytes) f))) ∙ drop_at (take at f ++ bytes) (drop (at + length bytes) f) (at + length bytes) both;
       no_shorter = omega (arith, length-overlaid f at bytes le);
     }
 
@@ -34,19 +34,19 @@ both_true true b is = (refl, is)
 both_true false b is = absurd (cc is)
 
 -- a write that fits begins within the file and ends within its bound
-pub fits-true : (f : List ℕ) (at : ℕ) (bytes : List ℕ) → fits f at bytes ≡ true → (at ≤ length f) × (at + length bytes ≤ 2 ^ 62)
+pub fits-true : (f : List ℕ) (at : ℕ) (bytes : List ℕ) → fits f at bytes ≡ true → (at ≤ length f) × (at + length bytes ≤ max_file_len)
 fits-true f at bytes is =
-    let (within, short) = both_true (nat_le at (length f)) (nat_le (at + length bytes) (2 ^ 62)) is in
+    let (within, short) = both_true (nat_le at (length f)) (nat_le (at + length bytes) max_file_len) is in
     (leb-true _ _ within, leb-true _ _ short)
 
-pub true-fits : (f : List ℕ) (at : ℕ) (bytes : List ℕ) → at ≤ length f → at + length bytes ≤ 2 ^ 62 → fits f at bytes ≡ true
+pub true-fits : (f : List ℕ) (at : ℕ) (bytes : List ℕ) → at ≤ length f → at + length bytes ≤ max_file_len → fits f at bytes ≡ true
 true-fits f at bytes within short =
-    ap (λ b. b && nat_le (at + length bytes) (2 ^ 62)) (le-leb at (length f) within) ∙ le-leb (at + length bytes) (2 ^ 62) short
+    ap (λ b. b && nat_le (at + length bytes) max_file_len) (le-leb at (length f) within) ∙ le-leb (at + length bytes) max_file_len short
 
-Torn-refl : (at n : ℕ) (f : List ℕ) → Torn at n f f
-Torn-refl at n f = record { before = refl; behind = refl; no_shorter = omega arith }
+pub Torn-refl : (at n : ℕ) (f : List ℕ) → Torn at n f f
+Torn-refl at n f = record { before = refl; after = refl; no_shorter = omega arith }
 
-wrote-short : (f : List ℕ) (at : ℕ) (bytes : List ℕ) (b : Bool) → fits f at bytes ≡ b → length f ≤ 2 ^ 62 → length (if b then overlaid f at bytes else f) ≤ 2 ^ 62
+wrote-short : (f : List ℕ) (at : ℕ) (bytes : List ℕ) (b : Bool) → fits f at bytes ≡ b → length f ≤ max_file_len → length (if b then overlaid f at bytes else f) ≤ max_file_len
 wrote-short f at bytes true is short = let fit = fits-true f at bytes is in omega (arith, fit.0, fit.1, length-overlaid f at bytes fit.0, short)
 wrote-short f at bytes false is short = short
 
@@ -54,8 +54,8 @@ wrote-torn : (f : List ℕ) (at : ℕ) (bytes : List ℕ) (b : Bool) → fits f 
 wrote-torn f at bytes true is = let fit = fits-true f at bytes is in overlaid-torn f at bytes fit.0
 wrote-torn f at bytes false is = Torn-refl at (length bytes) f
 
-pub file-short : (first : List ℕ) (changes : List Change) → length (file_of first changes) ≤ 2 ^ 62
-file-short first [] = omega (arith, length-take (2 ^ 62) first)
+pub file-short : (first : List ℕ) (changes : List Change) → length (file_of first changes) ≤ max_file_len
+file-short first [] = omega (arith, length-take max_file_len first)
 file-short first (Wrote at bytes ∷ earlier) = wrote-short (file_of first earlier) at bytes (fits (file_of first earlier) at bytes) refl (file-short first earlier)
 file-short first (Cut len ∷ earlier) = omega (arith, length-take len (file_of first earlier), file-short first earlier)
 file-short first (Synced ∷ earlier) = file-short first earlier
@@ -70,7 +70,7 @@ file-image first (Cut len ∷ earlier) = (file_of first earlier, file-image firs
 file-image first (Synced ∷ earlier) = refl
 file-image first (Linked events ∷ earlier) = file-image first earlier
 
-image-short : (first : List ℕ) (changes : List Change) (c : List ℕ) → image_of first changes c → length c ≤ 2 ^ 62
+image-short : (first : List ℕ) (changes : List Change) (c : List ℕ) → image_of first changes c → length c ≤ max_file_len
 image-short first [] c is = omega (arith, ap length is, file-short first [])
 image-short first (Wrote at bytes ∷ earlier) c (short, torn) = short
 image-short first (Cut len ∷ earlier) c (d, was, step) = omega (arith, image-short first earlier d was, step.no_longer)
@@ -101,10 +101,10 @@ disk_is_lawful disk link_faults quiets = record {
 }
 
 -- what a disk holds at first is its file, where that isn't too long
-pub first_whole : (first bytes : List ℕ) → bytes ≡ first → length first ≤ 2 ^ 62 → bytes ≡ file_of first []
-first_whole first bytes is le = is ∙ sym (take_all (2 ^ 62) first le)
+pub first_whole : (first bytes : List ℕ) → bytes ≡ first → length first ≤ max_file_len → bytes ≡ file_of first []
+first_whole first bytes is le = is ∙ sym (take_all max_file_len first le)
 
 -- a write that is logged is in the file
-pub file_wrote : (first : List ℕ) (earlier : List Change) (at : ℕ) (bytes : List ℕ) → at ≤ length (file_of first earlier) → at + length bytes ≤ 2 ^ 62
+pub file_wrote : (first : List ℕ) (earlier : List Change) (at : ℕ) (bytes : List ℕ) → at ≤ length (file_of first earlier) → at + length bytes ≤ max_file_len
     → file_of first (Wrote at bytes ∷ earlier) ≡ overlaid (file_of first earlier) at bytes
 file_wrote first earlier at bytes within short = cond-true (fits (file_of first earlier) at bytes) _ _ (true-fits (file_of first earlier) at bytes within short)

@@ -4,6 +4,7 @@ pub mod Crash
 pub mod Disk
 pub mod DiskLaws
 pub mod DiskLog
+pub mod Events
 pub mod Faults
 pub mod InMemory
 pub mod Inbox

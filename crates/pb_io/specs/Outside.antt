@@ -1,4 +1,4 @@
--- What the outside of a call tells at one moment: its source, its sink, and its site.
+-- What the outside of a call reports at one moment: its source, its sink, and its site.
 use Rattle.std.specs.Prelude.{ℕ, List, Option}
 use Rattle.pb_io.specs.View.{View}
 use Rattle.pb_io.specs.declared.disk.Disk as disk

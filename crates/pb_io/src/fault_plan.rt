@@ -1,4 +1,4 @@
-// Which calls of a form in memory fail.
+//! Which calls of a form in memory fail.
 ghost use Rattle.std.specs.Prelude.{◌≡◌, ◌≤◌, IfOk, is_err};
 ghost use Rattle.pb_io.specs.Calls.{is_listed, after_call, no_calls};
 ghost use Rattle.pb_io.specs.Faults.{counted};

@@ -1,6 +1,6 @@
-// The pieces that a site in memory is to hear.
+//! The chunks that a site in memory is to hear.
 ghost use Rattle.std.specs.Prelude.{◌≡◌, ◌≤◌, [], ◌∷◌, ◌++◌, length, OnOk, OnErr};
-ghost use Rattle.pb_io.specs.Inbox.{next_piece, without};
+ghost use Rattle.pb_io.specs.Inbox.{next_chunk, without};
 
 use std::alloc::{AllocError, Global};
 use std::collections::VecDeque;
@@ -8,8 +8,8 @@ use std::marker::Model;
 
 #[derive(Drop)]
 pub struct Inbox {
-    pieces: VecDeque<Vec<u8>>,
-    // how much of the first piece was given
+    chunks: VecDeque<Vec<u8>>,
+    // how much of the first chunk was given
     at: usize,
 }
 
@@ -18,11 +18,11 @@ impl Model for Inbox {
 
     ghost Value = { List (List ℕ) };
 
-    ghost use Rattle.pb_io.specs.Inbox.{waiting, next_piece};
+    ghost use Rattle.pb_io.specs.Inbox.{waiting, next_chunk};
 
-    ghost view = { λ b. waiting b.at b.pieces.items };
+    ghost view = { λ b. waiting b.at b.chunks.items };
 
-    ghost invariant = { λ b. b.at ≤ length (next_piece (waiting 0 b.pieces.items)) };
+    ghost invariant = { λ b. b.at ≤ length (next_chunk (waiting 0 b.chunks.items)) };
 }
 
 impl Inbox {
@@ -30,37 +30,37 @@ impl Inbox {
         ensures { result ≡ [] }
     {
         Inbox {
-            pieces: VecDeque::new(alloc),
+            chunks: VecDeque::new(alloc),
             at: 0,
         }
     }
 
-    /// Puts a piece behind the others.
-    pub fn push(&mut self, alloc: Global, piece: &[u8]) -> Result<(), AllocError>
-        ensures added { OnOk result (self.new ≡ self.old ++ piece.now ∷ []) }
+    /// Puts a chunk after the others.
+    pub fn push(&mut self, alloc: Global, chunk: &[u8]) -> Result<(), AllocError>
+        ensures added { OnOk result (self.new ≡ self.old ++ chunk.now ∷ []) }
         ensures same { OnErr result (self.new ≡ self.old) }
     {
-        self.pieces.push_back(Vec::from_slice(alloc, piece)?)?;
+        self.chunks.push_back(Vec::from_slice(alloc, chunk)?)?;
         Ok(())
     }
 
-    /// What is left of the next piece; no bytes where there is none.
+    /// What is left of the next chunk; no bytes where there is none.
     pub fn next(&self) -> &[u8]
-        ensures { result.now ≡ next_piece self.now }
+        ensures { result.now ≡ next_chunk self.now }
     {
-        match self.pieces.front() {
-            Some(piece) => &piece[self.at..],
+        match self.chunks.front() {
+            Some(chunk) => &chunk[self.at..],
             None => &[],
         }
     }
 
-    /// Takes bytes from the front of the next piece, and the piece with its last byte.
+    /// Takes the first bytes of the next chunk, and with its last byte the chunk.
     pub fn take(&mut self, n: usize)
-        requires { n ≤ length (next_piece self.old) }
+        requires { n ≤ length (next_chunk self.old) }
         ensures { self.new ≡ without n self.old }
     {
         if n == self.next().len() {
-            self.pieces.pop_front();
+            self.chunks.pop_front();
             self.at = 0;
         } else {
             self.at += n;

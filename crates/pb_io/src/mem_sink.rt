@@ -1,3 +1,4 @@
+//! A sink in memory, with faults at calls of choice.
 ghost use Rattle.std.specs.Prelude.{◌≡◌, ◌<◌, ◌≤◌, [], length, IfOk, IsTrue, Some, IsErr, is_err};
 ghost use Rattle.pb_io.specs.Calls.{is_listed, after_call, no_calls};
 ghost use Rattle.pb_io.specs.Faults.{HasCause};
@@ -9,7 +10,7 @@ use pb_base::Memory;
 use std::alloc::Global;
 use std::marker::Model;
 
-/// A sink in memory that takes each piece whole, with faults at calls of choice.
+/// A sink in memory that takes each write whole, with faults at calls of choice.
 #[derive(Drop)]
 pub struct MemSink {
     bytes: Vec<u8>,

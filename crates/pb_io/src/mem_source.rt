@@ -1,3 +1,4 @@
+//! A source in memory, with faults at calls of choice.
 ghost use Rattle.std.specs.Prelude.{◌≡◌, ◌==◌, ◌&&◌, ℕ, ◌<◌, ◌≤◌, min, length, IfOk, Some, is_err, nat_lt, if◌then◌else◌};
 ghost use Rattle.pb_io.specs.Calls.{is_listed, after_call, no_calls};
 ghost use Rattle.pb_io.specs.Faults.{HasCause, counted};
@@ -9,12 +10,12 @@ use pb_base::Memory;
 use std::alloc::Global;
 use std::marker::Model;
 
-/// Bytes in memory, given in pieces of a bounded length, with faults at calls of choice.
+/// Bytes in memory, given in chunks of a bounded length, with faults at calls of choice.
 #[derive(Drop)]
 pub struct MemSource {
     bytes: Vec<u8>,
     at: usize,
-    piece: usize,
+    chunk: usize,
     ends: u64,
     plan: FaultPlan,
 }
@@ -25,27 +26,27 @@ impl Model for MemSource {
 
     ghost Value = { Supply };
 
-    ghost view = { λ s. record { left = drop s.at s.bytes.items; piece = s.piece; ends = s.ends; calls = s.plan } };
+    ghost view = { λ s. record { left = drop s.at s.bytes.items; chunk = s.chunk; ends = s.ends; calls = s.plan } };
 
-    ghost invariant = { λ s. (s.at ≤ length s.bytes.items) × (1 ≤ s.piece) };
+    ghost invariant = { λ s. (s.at ≤ length s.bytes.items) × (1 ≤ s.chunk) };
 }
 
 impl MemSource {
-    /// A source that gives `bytes`, at most `piece` of them with each read. The reads whose numbers, from 0, stand
+    /// A source that gives `bytes`, at most `chunk` of them with each read. The reads whose numbers, from 0, stand
     /// in `fails` fail; they count too.
     pub fn new(
         alloc: Global,
         bytes: &[u8],
-        piece: usize,
+        chunk: usize,
         fails: &[u64],
     ) -> Result<MemSource, Memory>
-        requires { 1 ≤ piece }
-        ensures { IfOk result (λ s. s ≡ record { left = bytes.now; piece = piece; ends = 0; calls = no_calls fails.now }) }
+        requires { 1 ≤ chunk }
+        ensures { IfOk result (λ s. s ≡ record { left = bytes.now; chunk = chunk; ends = 0; calls = no_calls fails.now }) }
     {
         Ok(MemSource {
             bytes: Vec::from_slice(alloc, bytes).map_err(|_| Memory)?,
             at: 0,
-            piece,
+            chunk,
             ends: 0,
             plan: FaultPlan::new(alloc, fails).map_err(|_| Memory)?,
         })
@@ -65,13 +66,13 @@ impl Source for MemSource {
         ensures ends { CountsEnds self.old.ends self.new.ends to.old result }
         ensures cause { HasCause self.old.calls.faults self.new.calls.faults result }
         ensures listed { is_err result ≡ is_listed self.old.calls }
-        ensures taken { IfOk result (λ n. n ≡ min self.old.piece (min (length to.old) (length self.old.left))) }
-        ensures piece { self.new.piece ≡ self.old.piece }
+        ensures taken { IfOk result (λ n. n ≡ min self.old.chunk (min (length to.old) (length self.old.left))) }
+        ensures chunk { self.new.chunk ≡ self.old.chunk }
         ensures calls { self.new.calls ≡ after_call self.old.calls (is_err result) }
     {
         self.plan.call()?;
         let rest = &self.bytes[self.at..];
-        let n = self.piece.min(to.len()).min(rest.len());
+        let n = self.chunk.min(to.len()).min(rest.len());
         to[..n].copy_from_slice(&rest[..n]);
         self.at += n;
         self.ends = ends_after(self.ends, n, to.len());

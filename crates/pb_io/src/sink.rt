@@ -1,3 +1,4 @@
+//! Where bytes go.
 ghost use Rattle.std.specs.Prelude.{◌≡◌, ℕ, ◌<◌, ◌≤◌, List, length, Option, IfOk, OnOk, OnErr};
 ghost use Rattle.std.specs.Io.KnownBytes.{Appends};
 ghost use Rattle.pb_io.specs.Faults.{HasCause};
@@ -13,7 +14,7 @@ pub trait Sink {
     /// How often a write has failed. The count doesn't fall, and stands still at 2^64 - 1.
     ghost write_faults: { Self → ℕ };
 
-    /// Takes a front of `from`, and answers how many bytes it took: at least one of a piece that isn't empty.
+    /// Takes a prefix of `from`, and answers how many bytes it took: at least one where `from` isn't empty.
     fn write(&mut self, from: &[u8]) -> Result<usize, Failed>
         ensures bound { IfOk result (λ n. n ≤ length from.now) }
         ensures some { IfOk result (λ n. 0 < length from.now → 0 < n) }
@@ -21,10 +22,10 @@ pub trait Sink {
         ensures cause { HasCause (write_faults self.old) (write_faults self.new) result };
 }
 
-/// Writes all of `text`. Where a write fails, a front of it was written.
+/// Writes all of `text`. Where a write fails, a prefix of it was written.
 pub fn put_all<O: Sink>(out: &mut O, text: &[u8]) -> Result<(), Failed>
     ensures all { OnOk result (Appends (O.written out.old) (O.written out.new) text.now) }
-    ensures front { OnErr result (AppendsPrefix (O.written out.old) (O.written out.new) text.now) }
+    ensures prefix { OnErr result (AppendsPrefix (O.written out.old) (O.written out.new) text.now) }
     ensures cause { HasCause (O.write_faults out.old) (O.write_faults out.new) result }
 {
     let mut done = 0;

@@ -1,3 +1,4 @@
+//! A disk and a link to the stations.
 ghost use Rattle.std.specs.Prelude.{◌≡◌, ℕ, ◌<◌, ◌≤◌, length, IfOk};
 ghost use Rattle.pb_io.specs.Disk.{ReadsOnly};
 ghost use Rattle.pb_io.specs.Faults.{HasCause};
@@ -6,10 +7,11 @@ ghost use Rattle.pb_io.specs.View.{Elapses};
 
 use crate::{Disk, Failed};
 
-/// A disk and a link to the stations. The world grows at its end, by link calls alone; one that a site knows tells
-/// the frames sent, the bytes heard and the quiet ticks in their order, and the stations' history where it knows that.
+/// A disk and a link to the stations. The world grows at its end, by link calls alone; a world that is known
+/// has the frames sent, the bytes heard and the quiet ticks in their order, and the stations' history where the site
+/// knows that.
 ///
-/// `quiets` of what it tells counts the quiet ticks; it doesn't fall, and stands still at 2^64 - 1.
+/// `quiets` counts the quiet ticks; it doesn't fall, and stands still at 2^64 - 1.
 pub trait Site: Disk {
     /// Sends a frame that isn't empty. Where it fails, the frame may have been sent or not.
     fn send(&mut self, frame: &[u8]) -> Result<(), Failed>

@@ -1,3 +1,4 @@
+//! Where bytes come from.
 ghost use Rattle.std.specs.Prelude.{ℕ, ◌≤◌, List, length, Option, IfOk};
 ghost use Rattle.pb_io.specs.Faults.{HasCause};
 ghost use Rattle.pb_io.specs.Source.{CountsEnds, Reads};
@@ -15,7 +16,7 @@ pub trait Source {
     /// How often a read found the end of the input. The count doesn't fall, and stands still at 2^64 - 1.
     ghost ends: { Self → ℕ };
 
-    /// Reads into the front of `to`, and answers how many bytes came. Into a slice that isn't empty it answers 0
+    /// Reads into the first bytes of `to`, and answers how many bytes came. Into a slice that isn't empty it answers 0
     /// only at the end of the input.
     fn read(&mut self, to: &mut [u8]) -> Result<usize, Failed>
         ensures bound { IfOk result (λ n. n ≤ length to.old) }

@@ -1,3 +1,4 @@
+//! The forms in memory, at calls that go well and calls that fail.
 use super::*;
 use std::test::Fail;
 
@@ -75,5 +76,25 @@ fn a_disk_in_memory_keeps_what_was_written(rt: HostRuntime) -> Result<(), Fail> 
     assert_eq!(rt; disk.cut(6), Ok(()));
     assert_eq!(rt; disk.sync(), Ok(()));
     assert_eq!(rt; disk.bytes(), b"pakket".as_slice());
+    Ok(())
+}
+
+#[test]
+fn a_disk_goes_on_in_a_world(rt: HostRuntime) -> Result<(), Fail> {
+    let alloc = rt.alloc();
+    let mut disk = MemDisk::new(alloc, b"old", &[])?;
+    let mut events = Vec::new(alloc);
+    events.push(Event::Begin)?;
+    events.push(Event::Sent(Vec::from_slice(alloc, b"one")?))?;
+    disk.happened(events)?;
+    let next = MemDisk::in_world(alloc, b"torn", &[1], disk.into_world())?;
+    let mut site = MemSite::new(alloc, next, &[])?;
+    assert_eq!(rt; site.send(b"two"), Ok(()));
+    assert_eq!(rt; site.sent(0), Some(b"one".as_slice()));
+    assert_eq!(rt; site.sent(1), Some(b"two".as_slice()));
+    assert_eq!(rt; site.len(), Ok(4));
+    assert_eq!(rt; site.cut(1), Err(Failed));
+    assert_eq!(rt; site.cut(1), Ok(()));
+    assert_eq!(rt; site.len(), Ok(1));
     Ok(())
 }

@@ -3,8 +3,8 @@ use Rattle.std.proofs.lemmas.List.{take_rest}
 use Rattle.pb_io.proofs.SinkLemmas.{AppendsPrefix-kept, Appends-more, OnErr-anyway}
 use Rattle.pb_io.proofs.sink.put_all.Goals as goal
 
-pub returns-in_err-done-clause-front : goal.returns-in_err-done-clause-front
-returns-in_err-done-clause-front g c =
+pub returns-in_err-done-clause-prefix : goal.returns-in_err-done-clause-prefix
+returns-in_err-done-clause-prefix g c =
     OnErr-anyway _ _ (AppendsPrefix-kept _ _ _ c.loop-done.done _ c.loop-done.invariant.bytes c.in_err-done.ensures.bytes)
 
 pub loop-done-preserved : goal.loop-done-preserved

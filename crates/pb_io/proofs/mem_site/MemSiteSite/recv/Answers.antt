@@ -9,15 +9,15 @@ use Rattle.pb_io.proofs.mem_site.MemSiteSite.recv.Goals as goal
 pub returns-then-n-eq0-clause-world : goal.returns-then-n-eq0-clause-world
 returns-then-n-eq0-clause-world c =
     let n = c.min-n.result in
-    let piece = c.next-piece.result.now in
-    let copied : c.copy_from_slice.new.self ≡ take n piece = grind (arith, common_steps) in
-    arrival_grows (world_of c.args.self.now.disk.changes) (world_of c.received.new.self.changes) piece _ _ n
-    (ap (λ (d : DiskLog). world_of d.changes) c.in-Ok.ensures.added ∙ ap (λ (s : Place). world_of s.disk.changes ++ arrival (take n piece)) c.self.view_is) copied (omega arith)
+    let chunk = c.next-chunk.result.now in
+    let copied : c.copy_from_slice.new.self ≡ take n chunk = grind (arith, common_steps) in
+    arrival_grows (world_of c.args.self.now.disk.changes) (world_of c.received.new.self.changes) chunk _ _ n
+    (ap (λ (d : DiskLog). world_of d.changes) c.in-Ok.ensures.added ∙ ap (λ (s : Place). world_of s.disk.changes ++ arrival (take n chunk)) c.self.view_is) copied (omega arith)
 
 pub returns-else-n-eq0-clause-world : goal.returns-else-n-eq0-clause-world
 returns-else-n-eq0-clause-world c =
     let n = c.min-n.result in
-    let piece = c.next-piece.result.now in
-    let copied : c.copy_from_slice.new.self ≡ take n piece = grind (arith, common_steps) in
-    arrival_grows (world_of c.args.self.now.disk.changes) (world_of c.received.new.self.changes) piece _ _ n
-    (ap (λ (d : DiskLog). world_of d.changes) c.in-Ok.ensures.added ∙ ap (λ (s : Place). world_of s.disk.changes ++ arrival (take n piece)) c.self.view_is) copied (omega arith)
+    let chunk = c.next-chunk.result.now in
+    let copied : c.copy_from_slice.new.self ≡ take n chunk = grind (arith, common_steps) in
+    arrival_grows (world_of c.args.self.now.disk.changes) (world_of c.received.new.self.changes) chunk _ _ n
+    (ap (λ (d : DiskLog). world_of d.changes) c.in-Ok.ensures.added ∙ ap (λ (s : Place). world_of s.disk.changes ++ arrival (take n chunk)) c.self.view_is) copied (omega arith)

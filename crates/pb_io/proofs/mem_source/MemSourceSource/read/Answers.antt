@@ -12,5 +12,5 @@ returns-clause-bytes c =
     let copied : c.copy_from_slice.new.self ≡ take n (drop at all) = grind (arith, common_steps) in
     let left : c.args.self.now.left ≡ drop at all = cc in (
       left ∙ read_consumes all _ (drop n to) at n (omega (arith, length-drop at all)) copied,
-      λ none room. read_at_end all _ to at n c.self.inside.piece (omega arith) (omega (arith, length-drop at all)) copied none room,
+      λ none room. read_at_end all _ to at n c.self.inside.chunk (omega arith) (omega (arith, length-drop at all)) copied none room,
     )
