@@ -1,0 +1,13 @@
+pub mod ItemLemmas
+pub mod PrefixLemmas
+pub mod EndLemmas
+pub mod PathLemmas
+pub mod PassLemmas
+pub mod DescriptionLemmas
+pub mod FieldLemmas
+pub mod HeaderLemmas
+pub mod FieldsLemmas
+pub mod PartLemmas
+pub mod TableLemmas
+pub mod RefusalLemmas
+pub mod FileLemmas

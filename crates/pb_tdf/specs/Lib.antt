@@ -1,0 +1,9 @@
+pub mod Definition
+pub mod Inside
+pub mod Kinds
+pub mod Numbering
+pub mod Order
+pub mod Places
+pub mod Refusal
+pub mod Seen
+pub mod View
