@@ -1,5 +1,5 @@
 -- One push keeps what an unframer stands for, and shows the verdicts that the byte adds.
-use Rattle.std.proofs.Common.{◌≡◌, ◌≢◌, ℕ, ◌+◌, ◌-◌, ◌<◌, ◌≤◌, ◌⊎◌, inl, inr, Bool, true, false, cond, not, ◌&&◌, All, IsSome, is_some, List, [], ◌∷◌, ◌++◌, length, Option, Some, None, refl, sym, ◌∙◌, ap, subst, arith, append_assoc, length-append, ltb, nat_eq}
+use Rattle.std.proofs.Common.{◌≡◌, ◌≢◌, ℕ, ◌+◌, ◌-◌, ◌<◌, ◌≤◌, ◌⊎◌, inl, inr, Bool, true, false, cond, not, ◌&&◌, All, IsSome, is_some, List, [], ◌∷◌, ◌++◌, length, Option, Some, None, refl, sym, ◌∙◌, ap, subst, arith, append_assoc, length-append, ltb, nat_eq, take}
 use Rattle.std.proofs.lemmas.Bool.{false≢true, cases_eq, eq-eqb, ne_eqb, ltb-true, ltb-false, cond-true, cond-false}
 use Rattle.std.proofs.lemmas.List.{append-nil}
 use Rattle.std.proofs.lemmas.List.Elements.{All-nil, All-cons, All-push, All-append}
@@ -354,3 +354,15 @@ is_none-piece Quoting piece p q = absurd (q refl)
 
 pub unfinished-not : (h : Hearing) (pushed : List ℕ) → StandsFor h pushed → (h.state ≡ Plain → ⊥) → (h.state ≡ Quoting → ⊥) → is_some (unfinished pushed) ≡ false
 unfinished-not h pushed st p q = ap is_some (unfinished-open_piece h pushed st) ∙ is_none-piece h.state h.piece p q
+
+-- a run of no bytes leaves all as it was
+pub run_of_none : (s : State) (c p : ℕ) (b : List ℕ) (h : Hearing) → hearing s c p b ≡ h → (n : ℕ) (bytes : List ℕ) → n ≡ 0 → hearing h.state (h.count + n) h.piece (h.body ++ take n bytes) ≡ h
+run_of_none s c p b h is n bytes none =
+    let same : c + n ≡ c = omega (arith, none) in
+    subst (λ (k : Hearing). hearing k.state (k.count + n) k.piece (k.body ++ take n bytes) ≡ k) is
+    (ap (λ m. hearing s m p (b ++ take n bytes)) same ∙ ap (λ m. hearing s c p (b ++ take m bytes)) none ∙ ap (λ l. hearing s c p l) (append-nil b))
+
+pub skip_of_none : (s : State) (c p : ℕ) (b : List ℕ) (h : Hearing) → hearing s c p b ≡ h → (n : ℕ) → n ≡ 0 → hearing h.state (h.count + n) h.piece h.body ≡ h
+skip_of_none s c p b h is n none =
+    let same : c + n ≡ c = omega (arith, none) in
+    subst (λ (k : Hearing). hearing k.state (k.count + n) k.piece k.body ≡ k) is (ap (λ m. hearing s m p b) same)

@@ -31,6 +31,13 @@ quoted_byte byte = if nat_eq byte quote then quote ∷ 0xDC ∷ [] else (if nat_
 unfoldable pub quoted : List ℕ → List ℕ
 quoted body = flat_map quoted_byte body
 
+-- the most bytes of a body, and of a frame: each body byte quoted, and two flag bytes
+abbrev pub body_max : ℕ
+body_max = 1010
+
+abbrev pub frame_max : ℕ
+frame_max = 2022
+
 -- the frame of a content: the content and its nullifier, quoted, between two flag bytes
 abbrev pub frame : List ℕ → List ℕ
 frame content = flag ∷ quoted (content ++ null (sig content start)) ++ flag ∷ []

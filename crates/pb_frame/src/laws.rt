@@ -1,9 +1,17 @@
-ghost use Rattle.std.specs.Prelude.{◌≡◌, ℕ, ◌+◌, ◌<◌, ◌↔◌, true, List, [], ◌∷◌, ◌++◌, length, All, flat_map, Some, None};
+ghost use Rattle.std.specs.Prelude.{◌≡◌, ℕ, ◌+◌, ◌<◌, ◌≤◌, ◌↔◌, true, List, [], ◌∷◌, ◌++◌, length, All, flat_map, Some, None};
+ghost use Rattle.pb_frame.specs.declared.limits.TheConstants.{BODY_MAX, FRAME_MAX};
 ghost use Rattle.pb_frame.specs.declared.why.Why.{Why};
 ghost use Rattle.pb_frame.specs.Signature.{start, step, sig, null};
-ghost use Rattle.pb_frame.specs.Framing.{flag, Quoted, quoted, frame, cut, Piece, pieces, IsGood, IsContentSize, content_of, outcome, Whole, Faulty, Verdict, verdicts, unfinished};
+ghost use Rattle.pb_frame.specs.Framing.{body_max, frame_max, flag, Quoted, quoted, frame, cut, Piece, pieces, IsGood, IsContentSize, content_of, outcome, Whole, Faulty, Verdict, verdicts, unfinished};
 ghost use Rattle.pb_frame.specs.Hearing.{HasNoFlag};
 ghost use Rattle.pb_frame.specs.Faults.{HasFault, IsHeardBefore, IsPiece};
+
+/// The limits of the code are those of the format.
+pub fn law_limits()
+    ensures body { BODY_MAX ≡ body_max }
+    ensures frame { FRAME_MAX ≡ frame_max }
+    ensures enough { (content : List ℕ) → IsContentSize (length content) → length (frame content) ≤ frame_max }
+{}
 
 /// A content with its nullifier has signature 0.
 pub fn law_nullifier()

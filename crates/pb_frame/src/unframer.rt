@@ -1,5 +1,5 @@
 ghost use Rattle.std.specs.Prelude.{◌≡◌, ◌==◌, ℕ, ◌+◌, ◌*◌, ◌^◌, ◌<◌, ◌≤◌, List, [], ◌∷◌, ◌++◌, length, take, slice_index, All, IsSome, is_some};
-ghost use Rattle.pb_frame.specs.Framing.{flag, IsPlain, IsContentSize, verdicts, unfinished};
+ghost use Rattle.pb_frame.specs.Framing.{body_max, flag, IsPlain, IsContentSize, verdicts, unfinished};
 ghost use Rattle.pb_frame.specs.Hearing.{StandsFor, Follows, shown, IsAnswered, HoldsContent, HasNoFlag, EndsRun, hearing};
 ghost use Rattle.pb_frame.specs.Turn.{kept, ended, gone_on, begun, unquoted_by, passed, turned};
 
@@ -58,7 +58,7 @@ impl Unframer {
         requires { self.old.count < 2 ^ 62 }
         ensures follows { Follows self.old (byte ∷ []) (shown self.new result) self.new }
         ensures count { self.new.count ≡ self.old.count + 1 }
-        ensures kept { length self.new.body ≤ 1010 }
+        ensures kept { length self.new.body ≤ body_max }
         ensures answer { IsAnswered self.new result }
     {
         match self.state {
@@ -69,15 +69,18 @@ impl Unframer {
         }
     }
 
-    /// Takes a front of `bytes` that shows no verdict, and answers how many bytes that were. In a piece it goes on to
-    /// the next flag byte or quote byte, and in what is passed over to the next flag byte; behind a flag byte or a
-    /// quote byte it takes none. `push` takes the byte at which it stops.
+    /// Takes a prefix of `bytes` that shows no verdict, and answers how many bytes that were. In a piece it goes on to
+    /// the next flag byte or quote byte, and in what is passed over to the next flag byte; after a flag byte or a
+    /// quote byte it takes none, and all is as before: a content that was just heard may still be asked for. `push`
+    /// takes the byte at which it stops.
     pub fn take_plain(&mut self, bytes: &[u8]) -> usize
         requires { self.old.count + length bytes.now ≤ 2 ^ 62 }
         ensures front { result ≤ length bytes.now }
         ensures follows { Follows self.old (take result bytes.now) [] self.new }
+        ensures none { result ≡ 0 → self.new ≡ self.old }
+        ensures piece { self.new.piece ≡ self.old.piece }
         ensures count { self.new.count ≡ self.old.count + result }
-        ensures kept { length self.new.body ≤ 1010 }
+        ensures kept { length self.new.body ≤ body_max }
         ensures end { result < length bytes.now → EndsRun self.old.state self.old.body result (slice_index bytes.now result) }
     {
         match self.state {

@@ -1,5 +1,5 @@
 ghost use Rattle.std.specs.Prelude.{◌≡◌, ℕ, ◌+◌, ◌*◌, ◌<◌, ◌≤◌, ◌↔◌, List, ◌++◌, length, take, drop, IfOk, OnErr, IsErr, IsOk};
-ghost use Rattle.pb_frame.specs.Framing.{IsContentSize, quoted_byte, quoted, frame};
+ghost use Rattle.pb_frame.specs.Framing.{IsContentSize, frame_max, quoted_byte, quoted, frame};
 
 use crate::limits::{FLAG, QUOTE, QUOTED_FLAG, QUOTED_QUOTE, START};
 use crate::signing::{nullifier, signature};
@@ -13,7 +13,7 @@ pub fn frame_into(content: &[u8], out: &mut [u8]) -> Result<usize, Full>
     ensures ok { IfOk result (λ n. out.new ≡ frame content.now ++ drop n out.old) }
     ensures full { IsErr result ↔ (length out.old < length (frame content.now)) }
     ensures kept { OnErr result (out.new ≡ out.old) }
-    ensures enough { 2022 ≤ length out.old → IsOk result }
+    ensures enough { frame_max ≤ length out.old → IsOk result }
 {
     let ends = nullifier(signature(content, START));
     let size = quoted_length(content) + quoted_length(&ends) + 2;

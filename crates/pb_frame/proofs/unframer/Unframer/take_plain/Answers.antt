@@ -1,8 +1,14 @@
 use Rattle.std.proofs.Common.{◌+◌, ◌++◌, take, arith, sym, ap, ◌∙◌}
 use Rattle.std.proofs.lemmas.List.{length-take-le}
 use Rattle.pb_frame.specs.Hearing.{Hearing, hearing}
-use Rattle.pb_frame.proofs.TurnLemmas.{Follows-run, Follows-skipped}
+use Rattle.pb_frame.proofs.TurnLemmas.{Follows-run, Follows-skipped, run_of_none, skip_of_none}
 use Rattle.pb_frame.proofs.unframer.Unframer.take_plain.Goals as goal
+
+pub returns-in-Plain-clause-none : goal.returns-in-Plain-clause-none
+returns-in-Plain-clause-none c none = c.take_body.ensures.after ∙ run_of_none _ _ _ _ _ c.self.view_is c.take_body.result c.args.bytes.now none
+
+pub returns-in-Skipping-clause-none : goal.returns-in-Skipping-clause-none
+returns-in-Skipping-clause-none c none = c.skip.ensures.after ∙ skip_of_none _ _ _ _ _ c.self.view_is c.skip.result none
 
 pub returns-in-Plain-clause-follows : goal.returns-in-Plain-clause-follows
 returns-in-Plain-clause-follows c =
