@@ -8,7 +8,7 @@ use Rattle.pb_base.specs.World.{World, Sent, Quiet, all_heard, sent}
 use Rattle.pb_io.specs.Disk.{ReadsOnly}
 use Rattle.pb_io.specs.Site.{GrowsBy, SendsAtMost}
 use Rattle.pb_io.specs.View.{View, IsLawful, Elapses, LeavesOnly}
-use Rattle.pb_io.proofs.SendLemmas.{ReadsOnly-refl, ReadsOnly-trans, sends_none, sends_on, sends_then}
+use Rattle.pb_io.proofs.SendLemmas.{sends_none, sends_on, sends_then}
 use Rattle.pb_io.proofs.WorldLemmas.{GrowsBy-nil, GrowsBy-trans, sent-heard}
 use Rattle.pb_frame.specs.Framing.{Verdict}
 use Rattle.pb_frame.specs.Hearing.{Hearing, Follows}

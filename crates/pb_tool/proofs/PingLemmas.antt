@@ -22,8 +22,6 @@ use Rattle.pb_tool.specs.declared.exchange.Exchange.{Exchange}
 use Rattle.pb_tool.specs.declared.exchange.Asked.{Asked}
 use Rattle.pb_tool.specs.declared.exchange.Asked.TheVariants as asked
 use Rattle.pb_tool.specs.Ping.{NoneFits, bytes_heard, quiet_ticks, request_frame, ping_frames, ClockAnswered, IsAnswered, AsksClock, Exhausts, Pinging}
-use Rattle.pb_tool.specs.declared.status.Status.{Status}
-use Rattle.pb_tool.specs.PingText.{RanPing}
 use Rattle.pb_tool.specs.Judging.{EndsWith}
 use Rattle.pb_tool.specs.Exchange.{waiting, Asks, Stops}
 use Rattle.pb_tool.proofs.ExchangeLemmas.{bytes_heard-append, bytes_heard-sent}
@@ -192,11 +190,6 @@ module _ (me node : ℕ) (start first second : Exchange) (w x y : Option World) 
 -- what was asked is what the call answered
 pub asks_as : {request : Request} {me node : ℕ} {old new : Exchange} {w x : Option World} {a b : Asked} → a ≡ b → Asks request me node old w a new x → Asks request me node old w b new x
 asks_as {request} {me} {node} {old} {new} {w} {x} is h = subst (λ (o : Asked). Asks request me node old w o new x) is h
-
--- the same for the addresses that the words fix
-pub RanPing-as : {a b me node : ℕ} {r : Status} {w x : Option World} {y z : Option (List ℕ)} → (a ≡ me) × (b ≡ node) → RanPing a b r w x y z → RanPing me node r w x y z
-RanPing-as {a} {b} {me} {node} {r} {w} {x} {y} {z} same ran =
-    subst (λ (n : ℕ). RanPing me n r w x y z) same.1 (subst (λ (m : ℕ). RanPing m b r w x y z) same.0 ran)
 
 -- ---- what a crash may leave meanwhile
 

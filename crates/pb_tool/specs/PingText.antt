@@ -1,7 +1,8 @@
 -- What `ping` prints, and its status, by its answer.
-use Rattle.std.specs.Prelude.{ℕ, List, ◌++◌, Option, Result, Ok, Err, codes, decimal}
-use Rattle.pb_base.specs.World.{World}
+use Rattle.std.specs.Prelude.{◌≡◌, ℕ, List, ◌++◌, Result, Ok, Err, codes, decimal}
 use Rattle.pb_base.specs.declared.nsec.Nsec.{Nsec}
+use Rattle.pb_io.specs.Faults.{Rose}
+use Rattle.pb_io.specs.Outside.{Talk}
 use Rattle.pb_tool.specs.declared.greeting.Pinged.{Pinged}
 use Rattle.pb_tool.specs.declared.greeting.Cause.{Cause}
 use Rattle.pb_tool.specs.declared.greeting.Cause.TheVariants.{NoAnswer, Flooded, Refused}
@@ -47,9 +48,10 @@ ping_status (Err fault.LinkFault) = status.LinkFault
 ping_status (Err (fault.Hello cause)) = status.Incomplete
 ping_status (Err (fault.Clock cause router metric verify)) = status.Incomplete
 
--- The world grew by the events that the answer means, and the answer's text was written, or a front of it where a
--- write failed.
-pub record RanPing (me node : ℕ) (result : Status) (world_old world_new : Option World) (written_old written_new : Option (List ℕ)) : Type 0 where
+-- The row of `ping`: the world grew by the events that the answer means, and the answer's text was written, or a prefix
+-- of it where a write failed. A link fault is said only where one came in this call.
+pub record RanPing (me node : ℕ) (result : Status) (before after : Talk) : Type 0 where
   pub answer : Result Pinged PingFault
-  pub pinging : Pinging me node world_old world_new answer
-  pub printed : Closes (ping_status answer) result (ping_text node answer) written_old written_new
+  pub pinging : Pinging me node before.site.link.world after.site.link.world answer
+  pub printed : Closes (ping_status answer) result (ping_text node answer) before.out.written after.out.written
+  pub fault : answer ≡ Err fault.LinkFault → Rose before.site.link.faults after.site.link.faults

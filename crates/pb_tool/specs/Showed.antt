@@ -2,7 +2,7 @@
 use Rattle.std.specs.Prelude.{◌≡◌, ℕ, ◌≤◌, ◌⊎◌, List, ◌++◌, Bool, true, false, Option, Some, IfSome, length}
 use Rattle.std.specs.Io.KnownBytes.{Appends, Consumes, IsAtEnd}
 use Rattle.pb_io.specs.Faults.{Rose, counted}
-use Rattle.pb_io.specs.Outside.{Outside}
+use Rattle.pb_io.specs.Outside.{Streams}
 use Rattle.pb_io.specs.Sink.{AppendsPrefix}
 use Rattle.pb_frame.specs.Framing.{verdicts}
 use Rattle.pb_tool.specs.declared.status.Status.{Status}
@@ -65,7 +65,7 @@ Showed WriteFault left_old left_new written_old written_new read_failed = IfSome
 Showed _ left_old left_new written_old written_new read_failed = ⊥
 
 -- the row of `show`
-pub record RanShow (result : Status) (before after : Outside) : Type 0 where
+pub record RanShow (result : Status) (before after : Streams) : Type 0 where
   pub showed : Showed result before.input.left after.input.left before.out.written after.out.written (Rose before.input.faults after.input.faults)
   pub turns : IfSome before.input.left (TakesTurns after.input.left before.out.written after.out.written)
   pub ends : FindsEnd result before.input.ends after.input.ends

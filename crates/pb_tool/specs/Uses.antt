@@ -3,11 +3,13 @@ use Rattle.std.specs.Prelude.{◌≡◌, [], Bool, true, false, ◌||◌, Option
 use Rattle.std.specs.Bool.{OnFalse}
 use Rattle.pb_io.specs.Disk.{ReadsOnly}
 use Rattle.pb_io.specs.Site.{SendsAtMost}
-use Rattle.pb_io.specs.View.{View, LeavesOnly}
+use Rattle.pb_io.specs.Outside.{Outside}
+use Rattle.pb_io.specs.View.{LeavesOnly}
 use Rattle.pb_io.specs.declared.disk.Disk as disk
 use Rattle.pb_tool.specs.declared.words.Command.{Command}
 use Rattle.pb_tool.specs.declared.words.Command.TheVariants.{Show, Ping}
 use Rattle.pb_tool.specs.Ping.{ping_frames}
+use Rattle.pb_tool.specs.declared.status.Status.{Status}
 
 pub record Uses : Type 0 where
   pub input : Bool
@@ -28,9 +30,9 @@ pub record Leaves {S I : Type 0} (d : disk.Ghosts S) (u : Uses) (site_old : S) (
   pub disk_faults : OnFalse u.disk ((d.view site_new).faults ≡ (d.view site_old).faults)
   pub link : OnFalse u.link ((d.view site_new).link ≡ (d.view site_old).link)
 
--- What a crash at some moment of the command may leave, with the world of that moment. Where no row says otherwise it
--- is an image at entry, and the world at entry with a front of these frames sent.
-abbrev pub MayLeave : Option Command → View → View → Type 0
-MayLeave None old new = LeavesOnly old new (SendsAtMost [] old)
-MayLeave (Some Show) old new = LeavesOnly old new (SendsAtMost [] old)
-MayLeave (Some (Ping me node)) old new = LeavesOnly old new (SendsAtMost (ping_frames me node) old)
+-- What a crash at some moment of the command may leave, with the world of that moment. A command that writes no file
+-- leaves an image at entry, and the world at entry with a prefix of the frames that it sends.
+abbrev pub MayLeave : Option Command → Status → Outside → Outside → Type 0
+MayLeave None result before after = LeavesOnly before.site after.site (SendsAtMost [] before.site)
+MayLeave (Some Show) result before after = LeavesOnly before.site after.site (SendsAtMost [] before.site)
+MayLeave (Some (Ping me node)) result before after = LeavesOnly before.site after.site (SendsAtMost (ping_frames me node) before.site)

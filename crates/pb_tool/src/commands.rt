@@ -28,7 +28,9 @@ pub fn run<S: Site, I: Source, O: Sink>(
         (outside S.Disk I.Source O.Sink site.new input.new out.new)) }
 
     // What a crash at any moment of it may leave, with the world of that moment.
-    ensures may_leave { Said (map string_bytes words.now) (λ c. MayLeave c (S.view site.old) (S.view site.new)) }
+    ensures may_leave { Said (map string_bytes words.now) (λ c. MayLeave c result
+        (outside S.Disk I.Source O.Sink site.old input.old out.old)
+        (outside S.Disk I.Source O.Sink site.new input.new out.new)) }
 
     // What it doesn't use is as it was.
     ensures leaves { Said (map string_bytes words.now) (λ c.
@@ -55,7 +57,9 @@ fn perform<S: Site, I: Source, O: Sink>(
     ensures ran { Ran (Some command) result
         (outside S.Disk I.Source O.Sink site.old input.old out.old)
         (outside S.Disk I.Source O.Sink site.new input.new out.new) }
-    ensures may_leave { MayLeave (Some command) (S.view site.old) (S.view site.new) }
+    ensures may_leave { MayLeave (Some command) result
+        (outside S.Disk I.Source O.Sink site.old input.old out.old)
+        (outside S.Disk I.Source O.Sink site.new input.new out.new) }
     ensures leaves { Leaves S.Disk (uses (Some command)) site.old input.old site.new input.new }
     ensures causes { Causes result
         (outside S.Disk I.Source O.Sink site.old input.old out.old)

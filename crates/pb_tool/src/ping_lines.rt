@@ -1,6 +1,7 @@
 //! The lines of `ping`.
 ghost use Rattle.std.specs.Prelude.{◌≡◌, ◌≢◌, ◌≤◌, ◌+◌, ◌++◌, length};
 ghost use Rattle.pb_io.specs.Disk.{ReadsOnly};
+ghost use Rattle.pb_io.specs.Outside.{talk};
 ghost use Rattle.pb_io.specs.Site.{SendsAtMost};
 ghost use Rattle.pb_io.specs.View.{LeavesOnly};
 ghost use Rattle.pb_tool.specs.Causes.{Counts};
@@ -17,7 +18,7 @@ use pb_io::{Sink, Site};
 
 /// Pings a node, and prints what it answered.
 pub fn print<S: Site, O: Sink>(me: NodeId, node: NodeId, site: &mut S, out: &mut O) -> Status
-    ensures ran { RanPing me node result (S.view site.old).link.world (S.view site.new).link.world (O.written out.old) (O.written out.new) }
+    ensures ran { RanPing me node result (talk S.Disk O.Sink site.old out.old) (talk S.Disk O.Sink site.new out.new) }
     ensures links { Counts Status.LinkFault result (S.view site.old).link.faults (S.view site.new).link.faults }
     ensures writes { Counts Status.WriteFault result (O.write_faults out.old) (O.write_faults out.new) }
     ensures read_fault { result ≢ Status.ReadFault }
