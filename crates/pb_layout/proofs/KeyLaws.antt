@@ -48,7 +48,7 @@ split-takes u p v fits e =
     let below : n < 2 ^ 16 = t.1 in
     let made : (ℕ × ℕ) × Unread = (split n, a.0.1) in
     subst (λ (q : (ℕ × ℕ) × Unread). Took Split u q.0 q.1) (ok_is made (p, v) a.2)
-    (record { takes = subst (λ (k : ℕ). Takes u (to_be_bytes w16 k) a.0.1) whole t.0; fits = (omega arith, omega arith); obeys = tt; follows = tt })
+    (record { takes = subst (λ (k : ℕ). Takes u (to_be_bytes w16 k) a.0.1) whole t.0; fits = (omega arith, omega arith); obeys = (omega arith, omega arith); follows = tt })
 
 all_taken : (u : Unread) → Takes u u.rest (behind (length u.rest) u) × (drop (length u.rest) u.rest ≡ [])
 all_taken u =
@@ -173,7 +173,7 @@ key-again Byte at n rest fits obeys follows = ap (field (stands Byte at n rest))
 key-again (Between low high) at n rest fits obeys follows = between-again low high at n rest fits obeys.0 obeys.1
 key-again Half at n rest fits obeys follows = ap (field (stands Half at n rest)) (number-again w16 (2 ^ 16) wide16 at n rest fits)
 key-again Word at n rest fits obeys follows = ap (field (stands Word at n rest)) (number-again w32 (2 ^ 32) wide32 at n rest fits)
-key-again Split at p rest fits obeys follows = split-again at p rest fits.0 fits.1
+key-again Split at p rest fits obeys follows = split-again at p rest obeys.0 obeys.1
 key-again Time at t rest fits obeys follows = ap (field (stands Time at t rest)) (time-again at t rest fits.0 fits.1)
 key-again Text at x rest fits obeys follows =
     ap (field (stands Text at x rest)) (text-again at x rest obeys) ∙ ap (λ (n : ℕ). Ok (x, place (at + n) rest)) (sym (length-append x (0 ∷ [])))

@@ -1,4 +1,5 @@
-ghost use Rattle.std.specs.Prelude.{◌≡◌, Ok, Err, IfOk, IfErr};
+//! Readers of the keys of a message.
+ghost use Rattle.std.specs.Prelude.{◌≡◌, Ok, Err, IfOk, IfErr, OnErr};
 ghost use Rattle.pb_base.specs.Fields.{Unread, whole};
 ghost use Rattle.pb_layout.specs.Kind.{Byte, Between, Half, Word, Split, Time, Text, Rest, AtMost};
 ghost use Rattle.pb_layout.specs.Reading.{key_at};
@@ -6,7 +7,8 @@ ghost use Rattle.pb_layout.specs.Reading.{key_at};
 use pb_base::{FieldFault, Fields, MessageFault, Nsec};
 use std::marker::Model;
 
-/// A reader of the keys of a message. A key that can't be read is refused at its first byte.
+/// A reader of the keys of a message. A key that can't be read is refused at its first byte, and leaves the reader as it
+/// was.
 #[derive(Drop)]
 pub struct Keys<'a> {
     fields: Fields<'a>,
@@ -33,6 +35,7 @@ impl<'a> Keys<'a> {
     pub fn byte(&mut self) -> Result<u8, MessageFault>
         ensures read { IfOk result (λ n. key_at Byte self.old ≡ Ok (n, self.new)) }
         ensures refused { IfErr result (λ fault. key_at Byte self.old ≡ Err fault) }
+        ensures kept { OnErr result (self.new ≡ self.old) }
     {
         let at = self.fields.at();
         match self.fields.u8() {
@@ -46,10 +49,11 @@ impl<'a> Keys<'a> {
     pub fn between(&mut self, low: u8, high: u8) -> Result<u8, MessageFault>
         ensures read { IfOk result (λ n. key_at (Between low high) self.old ≡ Ok (n, self.new)) }
         ensures refused { IfErr result (λ fault. key_at (Between low high) self.old ≡ Err fault) }
+        ensures kept { OnErr result (self.new ≡ self.old) }
     {
         let at = self.fields.at();
-        match self.fields.u8() {
-            Ok(n) if low <= n && n <= high => Ok(n),
+        match self.fields.rest() {
+            [n, ..] if low <= *n && *n <= high => self.byte(),
             _ => Err(MessageFault::Malformed { at }),
         }
     }
@@ -59,6 +63,7 @@ impl<'a> Keys<'a> {
     pub fn half(&mut self) -> Result<u16, MessageFault>
         ensures read { IfOk result (λ n. key_at Half self.old ≡ Ok (n, self.new)) }
         ensures refused { IfErr result (λ fault. key_at Half self.old ≡ Err fault) }
+        ensures kept { OnErr result (self.new ≡ self.old) }
     {
         let at = self.fields.at();
         match self.fields.u16() {
@@ -72,6 +77,7 @@ impl<'a> Keys<'a> {
     pub fn word(&mut self) -> Result<u32, MessageFault>
         ensures read { IfOk result (λ n. key_at Word self.old ≡ Ok (n, self.new)) }
         ensures refused { IfErr result (λ fault. key_at Word self.old ≡ Err fault) }
+        ensures kept { OnErr result (self.new ≡ self.old) }
     {
         let at = self.fields.at();
         match self.fields.u32() {
@@ -85,6 +91,7 @@ impl<'a> Keys<'a> {
     pub fn split(&mut self) -> Result<(u8, u16), MessageFault>
         ensures read { IfOk result (λ parts. key_at Split self.old ≡ Ok (parts, self.new)) }
         ensures refused { IfErr result (λ fault. key_at Split self.old ≡ Err fault) }
+        ensures kept { OnErr result (self.new ≡ self.old) }
     {
         let at = self.fields.at();
         match self.fields.u16() {
@@ -98,6 +105,7 @@ impl<'a> Keys<'a> {
     pub fn time(&mut self) -> Result<Nsec, MessageFault>
         ensures read { IfOk result (λ time. key_at Time self.old ≡ Ok (time, self.new)) }
         ensures refused { IfErr result (λ fault. key_at Time self.old ≡ Err fault) }
+        ensures kept { OnErr result (self.new ≡ self.old) }
     {
         let at = self.fields.at();
         match self.fields.nsec() {
@@ -111,6 +119,7 @@ impl<'a> Keys<'a> {
     pub fn text(&mut self) -> Result<&'a [u8], MessageFault>
         ensures read { IfOk result (λ text. key_at Text self.old ≡ Ok (text.now, self.new)) }
         ensures refused { IfErr result (λ fault. key_at Text self.old ≡ Err fault) }
+        ensures kept { OnErr result (self.new ≡ self.old) }
     {
         let at = self.fields.at();
         match self.fields.asciiz() {

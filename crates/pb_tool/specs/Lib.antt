@@ -3,6 +3,7 @@ pub mod Closing
 pub mod Exchange
 pub mod Hex
 pub mod Judging
+pub mod Order
 pub mod PacketText
 pub mod Ping
 pub mod PingText

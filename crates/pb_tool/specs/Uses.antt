@@ -6,8 +6,7 @@ use Rattle.pb_io.specs.Site.{SendsAtMost}
 use Rattle.pb_io.specs.Outside.{Outside}
 use Rattle.pb_io.specs.View.{LeavesOnly}
 use Rattle.pb_io.specs.declared.disk.Disk as disk
-use Rattle.pb_tool.specs.declared.words.Command.{Command}
-use Rattle.pb_tool.specs.declared.words.Command.TheVariants.{Show, Ping}
+use Rattle.pb_tool.specs.Order.{Order, Show, Ping}
 use Rattle.pb_tool.specs.Ping.{ping_frames}
 use Rattle.pb_tool.specs.declared.status.Status.{Status}
 
@@ -17,7 +16,7 @@ pub record Uses : Type 0 where
   pub link : Bool
 
 -- one row a command; words of no listed form touch nothing
-abbrev pub uses : Option Command → Uses
+abbrev pub uses : Option Order → Uses
 uses None = record { input = false; disk = false; link = false }
 uses (Some Show) = record { input = true; disk = false; link = false }
 uses (Some (Ping me node)) = record { input = false; disk = false; link = true }
@@ -32,7 +31,7 @@ pub record Leaves {S I : Type 0} (d : disk.Ghosts S) (u : Uses) (site_old : S) (
 
 -- What a crash at some moment of the command may leave, with the world of that moment. A command that writes no file
 -- leaves an image at entry, and the world at entry with a prefix of the frames that it sends.
-abbrev pub MayLeave : Option Command → Status → Outside → Outside → Type 0
+abbrev pub MayLeave : Option Order → Status → Outside → Outside → Type 0
 MayLeave None result before after = LeavesOnly before.site after.site (SendsAtMost [] before.site)
 MayLeave (Some Show) result before after = LeavesOnly before.site after.site (SendsAtMost [] before.site)
 MayLeave (Some (Ping me node)) result before after = LeavesOnly before.site after.site (SendsAtMost (ping_frames me node) before.site)

@@ -1,6 +1,8 @@
+//! The commands: each has its words, its row in the tables of `run`, and a module of its own.
 ghost use Rattle.std.specs.Prelude.{map, string_bytes};
 ghost use Rattle.pb_io.specs.Outside.{outside};
 ghost use Rattle.pb_tool.specs.Causes.{Causes};
+ghost use Rattle.pb_tool.specs.Order.{order_of};
 ghost use Rattle.pb_tool.specs.Ran.{Ran};
 ghost use Rattle.pb_tool.specs.Uses.{uses, Leaves, MayLeave};
 ghost use Rattle.pb_tool.specs.Words.{Said};
@@ -54,13 +56,13 @@ fn perform<S: Site, I: Source, O: Sink>(
     input: &mut I,
     out: &mut O,
 ) -> Status
-    ensures ran { Ran (Some command) result
+    ensures ran { Ran (Some (order_of command)) result
         (outside S.Disk I.Source O.Sink site.old input.old out.old)
         (outside S.Disk I.Source O.Sink site.new input.new out.new) }
-    ensures may_leave { MayLeave (Some command) result
+    ensures may_leave { MayLeave (Some (order_of command)) result
         (outside S.Disk I.Source O.Sink site.old input.old out.old)
         (outside S.Disk I.Source O.Sink site.new input.new out.new) }
-    ensures leaves { Leaves S.Disk (uses (Some command)) site.old input.old site.new input.new }
+    ensures leaves { Leaves S.Disk (uses (Some (order_of command))) site.old input.old site.new input.new }
     ensures causes { Causes result
         (outside S.Disk I.Source O.Sink site.old input.old out.old)
         (outside S.Disk I.Source O.Sink site.new input.new out.new) }

@@ -1,0 +1,12 @@
+-- A command by what its words say, without where they lie in memory.
+use Rattle.std.specs.Prelude.{ℕ}
+use Rattle.pb_tool.specs.declared.words.Command.{Command}
+use Rattle.pb_tool.specs.declared.words.Command.TheVariants as command
+
+pub data Order : Type 0 where
+  Show : Order
+  Ping : (me node : ℕ) → Order
+
+abbrev pub order_of : Command → Order
+order_of command.Show = Show
+order_of (command.Ping me node) = Ping me node
