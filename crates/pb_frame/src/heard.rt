@@ -1,3 +1,4 @@
+//! What a push of an unframer answers.
 use crate::Why;
 
 /// What a pushed byte shows. Places count all bytes that were pushed, from 0.

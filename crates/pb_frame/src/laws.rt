@@ -1,3 +1,4 @@
+//! Laws on framing.
 ghost use Rattle.std.specs.Prelude.{◌≡◌, ℕ, ◌+◌, ◌<◌, ◌≤◌, ◌↔◌, true, List, [], ◌∷◌, ◌++◌, length, All, flat_map, Some, None};
 ghost use Rattle.pb_frame.specs.declared.limits.TheConstants.{BODY_MAX, FRAME_MAX};
 ghost use Rattle.pb_frame.specs.declared.why.Why.{Why};

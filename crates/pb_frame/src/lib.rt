@@ -13,8 +13,8 @@ mod writer;
 
 pub use heard::Heard;
 pub use laws::{
-    law_cut, law_fault, law_frame_heard, law_good, law_limits, law_nullifier, law_pieces, law_quoted, law_step,
-    law_verdicts_grow,
+    law_cut, law_fault, law_frame_heard, law_good, law_limits, law_nullifier, law_pieces,
+    law_quoted, law_step, law_verdicts_grow,
 };
 pub use limits::{BODY_MAX, FLAG, FRAME_MAX, QUOTE, START};
 pub use signing::{nullifier, signature};

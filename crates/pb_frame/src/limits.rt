@@ -1,3 +1,4 @@
+//! The bytes and the limits of frames.
 /// The byte that begins and ends a frame (PakBus).
 pub const FLAG: u8 = 0xBD;
 

@@ -1,3 +1,4 @@
+//! Runs of bytes that need no quoting.
 ghost use Rattle.std.specs.Prelude.{◌≡◌, ℕ, ◌+◌, ◌*◌, ◌<◌, ◌≤◌, slice_index, All, length, take, drop};
 ghost use Rattle.pb_frame.specs.Signature.{sig};
 ghost use Rattle.pb_frame.specs.Framing.{IsPlain};

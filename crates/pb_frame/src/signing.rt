@@ -1,3 +1,4 @@
+//! The signature and its nullifier.
 ghost use Rattle.std.specs.Prelude.{◌≡◌, ◌==◌, ℕ, ◌+◌, ◌*◌, ◌<◌, take, drop, length};
 ghost use Rattle.pb_frame.specs.Signature.{step, sig, null};
 

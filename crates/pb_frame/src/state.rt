@@ -1,3 +1,4 @@
+//! The states of an unframer.
 /// Where in the stream an unframer is.
 #[derive(Clone, Copy)]
 pub enum State {

@@ -1,3 +1,4 @@
+//! Tests of frames, whole and damaged.
 ghost use Rattle.std.specs.Prelude.{◌≡◌, ℕ, ◌+◌, ◌^◌, ◌<◌, ◌≤◌, length};
 
 use super::*;

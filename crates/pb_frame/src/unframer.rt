@@ -1,3 +1,4 @@
+//! Hearing the pieces of a framed stream.
 ghost use Rattle.std.specs.Prelude.{◌≡◌, ◌==◌, ℕ, ◌+◌, ◌*◌, ◌^◌, ◌<◌, ◌≤◌, List, [], ◌∷◌, ◌++◌, length, take, slice_index, All, IsSome, is_some};
 ghost use Rattle.pb_frame.specs.Framing.{body_max, flag, IsPlain, IsContentSize, verdicts, unfinished};
 ghost use Rattle.pb_frame.specs.Hearing.{StandsFor, Follows, shown, IsAnswered, HoldsContent, HasNoFlag, EndsRun, hearing};

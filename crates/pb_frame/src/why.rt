@@ -1,3 +1,4 @@
+//! Why a piece isn't good.
 /// Why a piece of the stream holds no good body, in the order of the test (PakBus).
 #[derive(Clone, Copy, Debug, PartialEq, Eq)]
 pub enum Why {

@@ -1,3 +1,4 @@
+//! Writing frames.
 ghost use Rattle.std.specs.Prelude.{◌≡◌, ℕ, ◌+◌, ◌*◌, ◌<◌, ◌≤◌, ◌↔◌, List, ◌++◌, length, take, drop, IfOk, OnErr, IsErr, IsOk};
 ghost use Rattle.pb_frame.specs.Framing.{IsContentSize, frame_max, quoted_byte, quoted, frame};
 

@@ -1,3 +1,4 @@
+//! The headers of packets.
 use pb_base::NodeId;
 
 /// What a packet says of the link that it goes over (PakBus).

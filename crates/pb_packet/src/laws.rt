@@ -1,3 +1,4 @@
+//! A law: a packet that is written is read again.
 ghost use Rattle.std.specs.Prelude.{◌≡◌, List, ℕ, Ok};
 ghost use Rattle.pb_packet.specs.Packet.{Seen, packet_of, packet_bytes, IsValid, PacketBytes};
 

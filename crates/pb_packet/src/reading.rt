@@ -1,3 +1,4 @@
+//! Reading packets.
 ghost use Rattle.std.specs.Prelude.{◌≡◌, ◌+◌, ◌*◌, ◌/◌, ◌%◌, ◌<◌, ◌≤◌, ◌⊎◌, ◌==◌, length, if◌then◌else◌, IfOk, MatchResult, IsOkAnd};
 ghost use Rattle.pb_packet.specs.Packet.{Seen, seen, packet_of, phys_of, header_of, with_state, PacketBytes};
 

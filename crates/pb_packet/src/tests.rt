@@ -1,3 +1,4 @@
+//! Tests of packets.
 use crate::{Header, LinkState, Packet, PacketFault, Phys, read, write};
 use pb_base::{Full, NodeId};
 use std::test::*;

@@ -1,3 +1,4 @@
+//! Writing packets.
 ghost use Rattle.std.specs.Prelude.{◌≡◌, ◌≤◌, ◌++◌, IfOk, OnErr};
 ghost use Rattle.pb_base.specs.Put.{IsWritten, DoesNotFit};
 ghost use Rattle.pb_packet.specs.Packet.{seen, code_of, word, phys_bytes, header_bytes, packet_bytes, FitsPhys, FitsHeader, Fits, IsAddress, IsValidPhys, IsValidHeader, IsValid};

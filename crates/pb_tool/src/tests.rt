@@ -1,3 +1,4 @@
+//! Tests of the commands, over the forms in memory.
 ghost use Rattle.std.specs.Prelude.{◌≤◌};
 
 use crate::{Status, run};

@@ -1,3 +1,4 @@
+//! Tests of the stream to a peer, over a stream of their own.
 use super::*;
 use std::test::Fail;
 

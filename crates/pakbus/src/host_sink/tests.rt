@@ -1,3 +1,4 @@
+//! Tests of a sink over a writer of their own.
 use super::*;
 use crate::waiting::Waiting;
 use std::test::Fail;

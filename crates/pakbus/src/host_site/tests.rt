@@ -1,3 +1,4 @@
+//! Tests of the real site against a listener, and of the forms of a peer.
 use super::HostSite;
 use crate::peer::host_and_port;
 use pb_io::{Failed, Site};

@@ -1,3 +1,4 @@
+//! Tests of a source over a reader of their own.
 ghost use Rattle.std.specs.Prelude.{◌≤◌, length, IfOk};
 
 use super::*;
