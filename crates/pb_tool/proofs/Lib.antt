@@ -1,6 +1,5 @@
 mod CauseLemmas
 mod ExchangeLemmas
-mod HexLemmas
 mod JudgeLemmas
 mod LineLemmas
 mod PingLemmas
@@ -8,5 +7,4 @@ mod PrintLemmas
 mod RequestLemmas
 mod StreamLemmas
 mod TakesLemmas
-mod TimeLemmas
 mod WordLemmas

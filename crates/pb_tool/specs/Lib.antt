@@ -1,7 +1,6 @@
 pub mod Causes
 pub mod Closing
 pub mod Exchange
-pub mod Hex
 pub mod Judging
 pub mod Order
 pub mod PacketText
@@ -12,6 +11,5 @@ pub mod ShowText
 pub mod Showed
 pub mod Showing
 pub mod Status
-pub mod TimeText
 pub mod Uses
 pub mod Words

@@ -12,7 +12,7 @@ use Rattle.pb_tool.specs.declared.status.Status.{Status}
 use Rattle.pb_tool.specs.declared.status.Status.TheVariants as status
 use Rattle.pb_tool.specs.Ping.{Pinging}
 use Rattle.pb_tool.specs.Closing.{Closes}
-use Rattle.pb_tool.specs.TimeText.{time_text}
+use Rattle.pb_value.specs.TimeText.{time_text}
 
 -- `hello NODE router B metric B verify H`
 unfoldable pub hello_text : (node router metric verify : ℕ) → List ℕ

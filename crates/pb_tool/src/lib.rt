@@ -12,7 +12,6 @@ mod reply;
 mod request;
 mod show;
 mod status;
-mod time_text;
 mod words;
 
 pub use commands::run;

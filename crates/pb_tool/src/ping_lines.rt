@@ -6,15 +6,16 @@ ghost use Rattle.pb_io.specs.Site.{SendsAtMost};
 ghost use Rattle.pb_io.specs.View.{LeavesOnly};
 ghost use Rattle.pb_tool.specs.Causes.{Counts};
 ghost use Rattle.pb_tool.specs.Ping.{ping_frames};
+ghost use Rattle.pb_value.specs.TimeText.{time_text};
 ghost use Rattle.pb_tool.specs.PingText.{hello_text, clock_text, cause_text, no_hello_text, no_clock_text, ping_text, ping_status, RanPing};
 
 use crate::Status;
 use crate::closing::close;
 use crate::greeting::{Cause, PingFault, Pinged, ping};
 use crate::page::Page;
-use crate::time_text::push_time;
 use pb_base::{NodeId, Nsec};
 use pb_io::{Sink, Site};
+use pb_value::{TIME_TEXT_MAX, time_into};
 
 /// Pings a node, and prints what it answered.
 pub fn print<S: Site, O: Sink>(me: NodeId, node: NodeId, site: &mut S, out: &mut O) -> Status
@@ -90,6 +91,18 @@ fn push_clock(page: &mut Page, node: u16, time: Nsec)
     page.push(b" ");
     push_time(page, time);
     page.push(b"\n");
+}
+
+/// The text of a time, for which there is room.
+fn push_time(page: &mut Page, time: Nsec)
+    requires room { length page.old + TIME_TEXT_MAX ≤ 65536 }
+    ensures text { page.new ≡ page.old ++ time_text time }
+    ensures short { length page.new ≤ length page.old + TIME_TEXT_MAX }
+{
+    let mut text = [0; TIME_TEXT_MAX];
+    if let Ok(len) = time_into(time, &mut text) {
+        page.push(&text[..len]);
+    }
 }
 
 #[tactic(auto, using(std::proofs::lemmas::List::append_assoc), unfolding(crate::specs::PingText::no_hello_text))]
