@@ -6,7 +6,8 @@ ghost use Rattle.pakbus.specs.Peer.{IsHost, IsPeer, IsPort};
 /// colon: 1 to 65535 in decimal digits, without a leading zero. A host may stand in brackets, as an address with
 /// colons is written. `listen:PORT` names no host.
 pub fn host_and_port(word: &str) -> Option<(&str, u16)>
-    ensures { MatchOption result ((host : List ℕ) (port : ℕ) → port < 2 ^ 16 → ¬ IsPeer word.now host port) (λ at. IsPeer word.now at.0.now at.1) }
+    ensures { MatchOption result ((host : List ℕ) (port : ℕ) → port < 2 ^ 16
+        → ¬ IsPeer word.now host port) (λ at. IsPeer word.now at.0.now at.1) }
 {
     let (text, digits) = word.rsplit_once(':')?;
     if text == "listen" {
@@ -19,7 +20,8 @@ pub fn host_and_port(word: &str) -> Option<(&str, u16)>
 
 // The host that a text names, which isn't empty.
 fn host_of(text: &str) -> Option<&str>
-    ensures { MatchOption result ((host : List ℕ) → 0 < length host → ¬ IsHost text.now host) (λ host. IsHost text.now host.now × (0 < length host.now)) }
+    ensures { MatchOption result ((host : List ℕ) → 0 < length host → ¬ IsHost text.now host)
+        (λ host. IsHost text.now host.now × (0 < length host.now)) }
 {
     let Some(rest) = text.strip_prefix("[") else {
         return some_host(text);

@@ -147,6 +147,10 @@ pub record Verdict : Type 0 where
   pub piece : ℕ
   pub outcome : Outcome
 
+-- the one verdict on a good piece that begins here
+abbrev pub whole_at : ℕ → List ℕ → List Verdict
+whole_at piece content = record { piece = piece; outcome = Whole content } ∷ []
+
 abbrev pub verdict_of : Piece → List Verdict
 verdict_of piece = option_to_list (option_map (λ o. record { piece = piece.at; outcome = o }) (outcome piece))
 

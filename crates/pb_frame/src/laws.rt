@@ -3,7 +3,7 @@ ghost use Rattle.std.specs.Prelude.{◌≡◌, ℕ, ◌+◌, ◌<◌, ◌≤◌,
 ghost use Rattle.pb_frame.specs.declared.limits.TheConstants.{BODY_MAX, FRAME_MAX};
 ghost use Rattle.pb_frame.specs.declared.why.Why.{Why};
 ghost use Rattle.pb_frame.specs.Signature.{start, step, sig, null};
-ghost use Rattle.pb_frame.specs.Framing.{body_max, frame_max, flag, Quoted, quoted, frame, cut, Piece, pieces, IsGood, IsContentSize, content_of, outcome, Whole, Faulty, Verdict, verdicts, unfinished};
+ghost use Rattle.pb_frame.specs.Framing.{body_max, frame_max, flag, Quoted, quoted, frame, cut, Piece, pieces, IsGood, IsContentSize, content_of, outcome, Whole, Faulty, Verdict, verdicts, unfinished, whole_at};
 ghost use Rattle.pb_frame.specs.Hearing.{HasNoFlag};
 ghost use Rattle.pb_frame.specs.Faults.{HasFault, IsHeardBefore, IsPiece};
 
@@ -45,20 +45,27 @@ pub fn law_pieces()
 
 /// An ended piece that is good is heard as the content of its body, and nothing else is heard as a content.
 pub fn law_good()
-    ensures good { (piece : Piece) (good : IsGood piece.text) → piece.ended ≡ true → outcome piece ≡ Some (Whole (content_of good.0)) }
-    ensures whole { (piece : Piece) (content : List ℕ) → IsPiece piece → outcome piece ≡ Some (Whole content) → (piece.ended ≡ true) × ((good : IsGood piece.text) × (content ≡ content_of good.0)) }
+    ensures good { (piece : Piece) (good : IsGood piece.text) → piece.ended ≡ true
+        → outcome piece ≡ Some (Whole (content_of good.0)) }
+    ensures whole { (piece : Piece) (content : List ℕ) → IsPiece piece
+        → outcome piece ≡ Some (Whole content) → (piece.ended ≡ true)
+        × ((good : IsGood piece.text) × (content ≡ content_of good.0)) }
 {}
 
 /// The fault that is heard is one that the piece has, and none comes before it.
 pub fn law_fault()
-    ensures has { (piece : Piece) (at : ℕ) (why : Why) → IsPiece piece → outcome piece ≡ Some (Faulty at why) → HasFault piece at why }
+    ensures has { (piece : Piece) (at : ℕ) (why : Why) → IsPiece piece
+        → outcome piece ≡ Some (Faulty at why) → HasFault piece at why }
     ensures first { (piece : Piece) (at : ℕ) (why : Why) → HasFault piece at why → IsHeardBefore piece at why }
 {}
 
 /// A written frame is heard as its content, whatever stands before it, and leaves no open piece.
 pub fn law_frame_heard()
-    ensures heard { (front content : List ℕ) → IsContentSize (length content) → verdicts (front ++ frame content) ≡ verdicts (front ++ flag ∷ []) ++ record { piece = length front + 1; outcome = Whole content } ∷ [] }
-    ensures next { (front content : List ℕ) → IsContentSize (length content) → verdicts ((front ++ flag ∷ []) ++ frame content) ≡ verdicts (front ++ flag ∷ []) ++ record { piece = length front + 2; outcome = Whole content } ∷ [] }
+    ensures heard { (front content : List ℕ) → IsContentSize (length content)
+        → verdicts (front ++ frame content) ≡ verdicts (front ++ flag ∷ []) ++ whole_at (length front + 1) content }
+    ensures next { (front content : List ℕ) → IsContentSize (length content)
+        → verdicts ((front ++ flag ∷ []) ++ frame content)
+        ≡ verdicts (front ++ flag ∷ []) ++ whole_at (length front + 2) content }
     ensures closed { (front content : List ℕ) → unfinished (front ++ frame content) ≡ None }
 {}
 

@@ -14,7 +14,8 @@ pub fn copy_plain(bytes: &[u8], room: &mut [u8], signer: &mut Signer) -> usize
     ensures end { result < length bytes.now → result < length room.old → ¬ IsPlain (slice_index bytes.now result) }
     ensures plain { All IsPlain (take result bytes.now) }
     ensures copied { take result room.new ≡ take result bytes.now }
-    ensures signed { 256 * signer.new.high + signer.new.low ≡ sig (take result bytes.now) (256 * signer.old.high + signer.old.low) }
+    ensures signed { 256 * signer.new.high + signer.new.low
+        ≡ sig (take result bytes.now) (256 * signer.old.high + signer.old.low) }
 {
     let end = bytes.len().min(room.len());
     let mut sum = *signer;

@@ -94,7 +94,8 @@ impl Unframer {
     /// Where the piece in progress began or, right after a verdict, where the judged piece began.
     pub fn piece(&self) -> u64
         ensures value { result ≡ self.now.piece }
-        ensures open { (pushed : List ℕ) → StandsFor self.now pushed → IsSome (unfinished pushed) → unfinished pushed ≡ Some result }
+        ensures open { (pushed : List ℕ) → StandsFor self.now pushed → IsSome (unfinished pushed)
+            → unfinished pushed ≡ Some result }
     {
         self.piece
     }

@@ -74,7 +74,8 @@ impl Exchange {
         ensures stops { OnErr result (Stops (request_frame request me node ∷ []) (S.view site.old).link.world (S.view site.new).link.world) }
         ensures disk { ReadsOnly (S.view site.old) (S.view site.new) }
         ensures disk_faults { (S.view site.new).faults ≡ (S.view site.old).faults }
-        ensures leaves { LeavesOnly (S.view site.old) (S.view site.new) (SendsAtMost (request_frame request me node ∷ []) (S.view site.old)) }
+        ensures leaves { LeavesOnly (S.view site.old)
+            (S.view site.new) (SendsAtMost (request_frame request me node ∷ []) (S.view site.old)) }
         ensures cause { HasCause (S.view site.old).link.faults (S.view site.new).link.faults result }
     {
         let mut frame = [0; FRAME_MAX];

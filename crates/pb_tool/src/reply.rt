@@ -18,7 +18,8 @@ pub const CLOCK_TRAN: u8 = 2;
 /// The reply to the request that the content of a good body holds, if it is one, from the node to me.
 pub fn reply_of(request: Request, me: NodeId, node: NodeId, content: &[u8]) -> Option<Reply>
     requires { IsContentSize (length content.now) }
-    ensures { MatchOption result ((answer : Reply) → IsReply request me node answer content.now → ⊥) (λ answer. IsReply request me node answer content.now) }
+    ensures { MatchOption result ((answer : Reply) → IsReply request me node answer content.now → ⊥)
+        (λ answer. IsReply request me node answer content.now) }
 {
     let Some(message) = message_from(protocol(request), me, node, content) else {
         return None;
@@ -42,7 +43,8 @@ pub fn protocol(request: Request) -> u8
 // The message of a packet of this protocol from the node to me.
 fn message_from(proto: u8, me: NodeId, node: NodeId, content: &[u8]) -> Option<&[u8]>
     requires { IsContentSize (length content.now) }
-    ensures { MatchOption result ((message : List ℕ) → IsFrom me node proto content.now message → ⊥) (λ message. IsFrom me node proto content.now message.now) }
+    ensures { MatchOption result ((message : List ℕ) → IsFrom me node proto content.now message → ⊥)
+        (λ message. IsFrom me node proto content.now message.now) }
 {
     match pb_packet::read(content) {
         Ok(Packet::Full(header, message)) => {
@@ -61,7 +63,8 @@ fn message_from(proto: u8, me: NodeId, node: NodeId, content: &[u8]) -> Option<&
 }
 
 fn hello_reply(message: &[u8]) -> Option<Reply>
-    ensures { MatchOption result ((answer : Reply) → IsAnswer Request.Hello answer message.now → ⊥) (λ answer. IsAnswer Request.Hello answer message.now) }
+    ensures { MatchOption result ((answer : Reply) → IsAnswer Request.Hello answer message.now → ⊥)
+        (λ answer. IsAnswer Request.Hello answer message.now) }
 {
     match pb_ctrl::read(message) {
         Ok(
@@ -88,7 +91,8 @@ fn hello_reply(message: &[u8]) -> Option<Reply>
 }
 
 fn clock_reply(message: &[u8]) -> Option<Reply>
-    ensures { MatchOption result ((answer : Reply) → IsAnswer Request.Clock answer message.now → ⊥) (λ answer. IsAnswer Request.Clock answer message.now) }
+    ensures { MatchOption result ((answer : Reply) → IsAnswer Request.Clock answer message.now → ⊥)
+        (λ answer. IsAnswer Request.Clock answer message.now) }
 {
     match pb_bmp5::read(message) {
         Ok(Bmp5::ClockReply { tran, resp, time }) => {
