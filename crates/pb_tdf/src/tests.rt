@@ -64,20 +64,28 @@ fn one_event_table(rt: HostRuntime) -> Result<(), Fail> {
     Ok(())
 }
 
+/// The refusal of a file that is cut in this item.
+fn cut_in(item: usize, len: usize) -> Option<TdfFault> {
+    if len == 1 {
+        // The version alone is a file without tables.
+        None
+    } else if is_text(item) {
+        Some(TdfFault::NoEnd { at: item })
+    } else {
+        Some(TdfFault::Short { at: item })
+    }
+}
+
+fn cuts_are_refused(alloc: Global, file: &[u8]) -> bool {
+    (0..file.len()).all(|len| match file.get(..len) {
+        Some(cut) => refusal(alloc, cut) == cut_in(item_at(len), len),
+        None => false,
+    })
+}
+
 #[test]
 fn a_file_cut_at_each_byte(rt: HostRuntime) {
-    for len in 0..44usize {
-        let item = item_at(len);
-        let expected = if len == 1 {
-            // The version alone is a file without tables.
-            None
-        } else if is_text(item) {
-            Some(TdfFault::NoEnd { at: item })
-        } else {
-            Some(TdfFault::Short { at: item })
-        };
-        assert_eq!(rt; refusal(rt.alloc(), &FILE[..len]), expected);
-    }
+    assert!(rt; cuts_are_refused(rt.alloc(), &FILE));
 }
 
 /// The header of a table T of size 1 without an interval.
@@ -121,62 +129,56 @@ fn bytes_after_a_table(rt: HostRuntime) -> Result<(), Fail> {
     Ok(())
 }
 
+/// The codes and dimensions of tables with one field, whose dimension is at 34, and the refusals of the tables.
+const DIMENSIONS: [(u8, u32, Option<TdfFault>); 11] = [
+    (1, 16_384, None),
+    (1, 16_385, Some(TdfFault::TooMany { at: 34 })),
+    (7, 8_192, None),
+    (7, 8_193, Some(TdfFault::TooMany { at: 34 })),
+    (11, 16_384, None),
+    (11, 16_385, Some(TdfFault::TooMany { at: 34 })),
+    (16, 16_384, None),
+    (16, 16_385, Some(TdfFault::TooMany { at: 34 })),
+    (1, u32::MAX, Some(TdfFault::TooMany { at: 34 })),
+    (26, 1, Some(TdfFault::BadType { at: 23 })),
+    (0x80, 1, Some(TdfFault::BadType { at: 23 })),
+];
+
+fn dimensions_are_judged(
+    alloc: Global,
+    cases: &[(u8, u32, Option<TdfFault>)],
+) -> Result<bool, Fail> {
+    for case in cases {
+        let table = table_of(alloc, case.0, b"V", case.1)?;
+        if table_refusal(alloc, &table) != case.2 {
+            return Ok(false);
+        }
+    }
+    Ok(true)
+}
+
 #[test]
 fn limits_of_values_and_record_bytes(rt: HostRuntime) -> Result<(), Fail> {
+    assert!(rt; dimensions_are_judged(rt.alloc(), &DIMENSIONS)?);
+    Ok(())
+}
+
+#[test]
+fn the_values_of_all_fields_count_together(rt: HostRuntime) -> Result<(), Fail> {
     let alloc = rt.alloc();
-    // The dimension follows the header, a type byte, a name of one byte and ten bytes.
-    let past = Some(TdfFault::TooMany { at: 34 });
-    assert_eq!(rt;
-        table_refusal(alloc, &table_of(alloc, 1, b"V", 16_384)?),
-        None
-    );
-    assert_eq!(rt;
-        table_refusal(alloc, &table_of(alloc, 1, b"V", 16_385)?),
-        past
-    );
-    assert_eq!(rt;
-        table_refusal(alloc, &table_of(alloc, 7, b"V", 8_192)?),
-        None
-    );
-    assert_eq!(rt;
-        table_refusal(alloc, &table_of(alloc, 7, b"V", 8_193)?),
-        past
-    );
-    assert_eq!(rt;
-        table_refusal(alloc, &table_of(alloc, 11, b"V", 16_384)?),
-        None
-    );
-    assert_eq!(rt;
-        table_refusal(alloc, &table_of(alloc, 11, b"V", 16_385)?),
-        past
-    );
-    assert_eq!(rt;
-        table_refusal(alloc, &table_of(alloc, 16, b"V", 16_384)?),
-        None
-    );
-    assert_eq!(rt;
-        table_refusal(alloc, &table_of(alloc, 16, b"V", 16_385)?),
-        past
-    );
-    assert_eq!(rt;
-        table_refusal(alloc, &table_of(alloc, 1, b"V", u32::MAX)?),
-        past
-    );
-    let bad = Some(TdfFault::BadType { at: 23 });
-    assert_eq!(rt; table_refusal(alloc, &table_of(alloc, 26, b"V", 1)?), bad);
-    assert_eq!(rt; table_refusal(alloc, &table_of(alloc, 0x80, b"V", 1)?), bad);
-    // The values of all fields count together.
     let mut two = Vec::from_slice(alloc, &HEADER)?;
     push_field(&mut two, 1, b"V", 16_384)?;
     push_field(&mut two, 11, b"V", 0)?;
     two.push(0)?;
-    assert_eq!(rt;
-        table_refusal(alloc, &two),
-        Some(TdfFault::TooMany { at: 53 })
-    );
-    let read = Table::read(alloc, &table_of(alloc, 16, b"V", 2)?)
-        .ok()
-        .ok_or("a table")?;
+    let past = Some(TdfFault::TooMany { at: 53 });
+    assert_eq!(rt; table_refusal(alloc, &two), past);
+    Ok(())
+}
+
+#[test]
+fn a_table_with_a_text_of_any_length(rt: HostRuntime) -> Result<(), Fail> {
+    let bytes = table_of(rt.alloc(), 16, b"V", 2)?;
+    let read = Table::read(rt.alloc(), &bytes).ok().ok_or("a table")?;
     assert_eq!(rt; read.layout(), Err(Uncollectable));
     Ok(())
 }
@@ -187,97 +189,111 @@ fn table_with_name(alloc: Global, len: usize) -> Result<Vec<u8>, Fail> {
     table_of(alloc, 1, &name, 1)
 }
 
-#[test]
-fn limits_of_fields_and_bytes(rt: HostRuntime) -> Result<(), Fail> {
-    let alloc = rt.alloc();
-    // 1,024 fields of 19 bytes each, and one more.
-    let mut fields = Vec::from_slice(alloc, &HEADER)?;
+/// The refusal of 1,024 fields of 19 bytes each and what follows them.
+fn after_most_fields(alloc: Global, tail: &[u8]) -> Result<Option<TdfFault>, Fail> {
+    let mut table = Vec::from_slice(alloc, &HEADER)?;
     for _ in 0..1024 {
-        push_field(&mut fields, 1, b"V", 1)?;
+        push_field(&mut table, 1, b"V", 1)?;
     }
-    assert_eq!(rt; fields.len(), 19_479);
-    assert_eq!(rt;
-        table_refusal(alloc, &fields),
-        Some(TdfFault::Short { at: 19_479 })
-    );
-    fields.push(0)?;
-    assert_eq!(rt; table_refusal(alloc, &fields), None);
-    fields.truncate(19_479);
-    fields.push(1)?;
-    assert_eq!(rt;
-        table_refusal(alloc, &fields),
-        Some(TdfFault::TooMany { at: 19_479 })
-    );
-    fields.truncate(19_479);
-    fields.push(26)?;
-    assert_eq!(rt;
-        table_refusal(alloc, &fields),
-        Some(TdfFault::BadType { at: 19_479 })
-    );
-    let most = table_with_name(alloc, 59_958)?;
-    assert_eq!(rt; table_refusal(alloc, &most), None);
-    let past = table_with_name(alloc, 59_959)?;
-    assert_eq!(rt;
-        table_refusal(alloc, &past),
-        Some(TdfFault::TooMany { at: 60_000 })
-    );
-    let cut = past.get(..60_000).ok_or("a table")?;
-    assert_eq!(rt;
-        table_refusal(alloc, cut),
-        Some(TdfFault::Short { at: 60_000 })
-    );
-    // The name begins before the limit and ends after it, or nowhere.
-    let far = table_with_name(alloc, 60_058)?;
-    assert_eq!(rt;
-        table_refusal(alloc, &far),
-        Some(TdfFault::TooMany { at: 60_000 })
-    );
-    let cut = far.get(..60_050).ok_or("a table")?;
-    assert_eq!(rt; table_refusal(alloc, cut), Some(TdfFault::NoEnd { at: 24 }));
-    Ok(())
+    table.extend_from_slice(tail)?;
+    Ok(table_refusal(alloc, &table))
 }
 
 #[test]
-fn limits_of_a_file(rt: HostRuntime) -> Result<(), Fail> {
+fn limit_of_fields(rt: HostRuntime) -> Result<(), Fail> {
     let alloc = rt.alloc();
+    let at = 19_479;
+    assert_eq!(rt; after_most_fields(alloc, &[0])?, None);
+    assert_eq!(rt;
+        after_most_fields(alloc, &[])?,
+        Some(TdfFault::Short { at })
+    );
+    assert_eq!(rt;
+        after_most_fields(alloc, &[1])?,
+        Some(TdfFault::TooMany { at })
+    );
+    assert_eq!(rt;
+        after_most_fields(alloc, &[26])?,
+        Some(TdfFault::BadType { at })
+    );
+    Ok(())
+}
+
+/// The refusal of a table with a name of this length, of which the first bytes alone are there.
+fn with_name(alloc: Global, name: usize, len: usize) -> Result<Option<TdfFault>, Fail> {
+    let table = table_with_name(alloc, name)?;
+    Ok(table_refusal(alloc, table.get(..len).ok_or("a table")?))
+}
+
+#[test]
+fn limit_of_a_tables_bytes(rt: HostRuntime) -> Result<(), Fail> {
+    let alloc = rt.alloc();
+    let past = Some(TdfFault::TooMany { at: 60_000 });
+    assert_eq!(rt; with_name(alloc, 59_958, 60_000)?, None);
+    assert_eq!(rt; with_name(alloc, 59_959, 60_001)?, past);
+    let short = Some(TdfFault::Short { at: 60_000 });
+    assert_eq!(rt; with_name(alloc, 59_959, 60_000)?, short);
+    // The name begins before the limit and ends after it, or nowhere.
+    assert_eq!(rt; with_name(alloc, 60_058, 60_100)?, past);
+    let endless = Some(TdfFault::NoEnd { at: 24 });
+    assert_eq!(rt; with_name(alloc, 60_058, 60_050)?, endless);
+    Ok(())
+}
+
+/// The refusal of a file of 255 tables of 24 bytes each, and what follows them.
+fn after_most_tables(alloc: Global, tail: &[u8]) -> Result<Option<TdfFault>, Fail> {
     let mut file = Vec::from_slice(alloc, &[1])?;
     for _ in 0..255 {
         file.extend_from_slice(&HEADER)?;
         file.push(0)?;
     }
-    let tables = Definitions::read(alloc, &file).ok().ok_or("a file")?;
-    assert_eq!(rt; tables.count(), 255);
-    assert_eq!(rt; tables.by_name(b"T"), Some(TableNo(1)));
-    file.push(0x54)?;
-    assert_eq!(rt; refusal(alloc, &file), Some(TdfFault::NoEnd { at: 6_121 }));
-    file.push(0)?;
+    file.extend_from_slice(tail)?;
+    Ok(refusal(alloc, &file))
+}
+
+#[test]
+fn limit_of_tables(rt: HostRuntime) -> Result<(), Fail> {
+    let alloc = rt.alloc();
+    let at = 6_121;
+    assert_eq!(rt; after_most_tables(alloc, &[])?, None);
     assert_eq!(rt;
-        refusal(alloc, &file),
-        Some(TdfFault::TooMany { at: 6_121 })
+        after_most_tables(alloc, b"T")?,
+        Some(TdfFault::NoEnd { at })
     );
-    let mut long = Vec::from_slice(alloc, &[1])?;
+    assert_eq!(rt;
+        after_most_tables(alloc, b"T\0")?,
+        Some(TdfFault::TooMany { at })
+    );
+    Ok(())
+}
+
+/// The refusal of a file of four tables of 60,000 bytes, one with a name of this length, and what follows.
+fn in_long_file(alloc: Global, name: usize, tail: &[u8]) -> Result<Option<TdfFault>, Fail> {
+    let mut file = Vec::from_slice(alloc, &[1])?;
     for _ in 0..4 {
-        long.extend_from_slice(&table_with_name(alloc, 59_958)?)?;
+        file.extend_from_slice(&table_with_name(alloc, 59_958)?)?;
     }
-    let four = long.len();
-    long.extend_from_slice(&table_with_name(alloc, 22_101)?)?;
-    assert_eq!(rt; long.len(), 262_144);
-    assert_eq!(rt; refusal(alloc, &long), None);
-    long.push(0x54)?;
+    file.extend_from_slice(&table_with_name(alloc, name)?)?;
+    file.extend_from_slice(tail)?;
+    Ok(refusal(alloc, &file))
+}
+
+#[test]
+fn limit_of_a_files_bytes(rt: HostRuntime) -> Result<(), Fail> {
+    let alloc = rt.alloc();
+    let at = 262_144;
+    assert_eq!(rt; in_long_file(alloc, 22_101, &[])?, None);
     assert_eq!(rt;
-        refusal(alloc, &long),
-        Some(TdfFault::NoEnd { at: 262_144 })
+        in_long_file(alloc, 22_101, b"T")?,
+        Some(TdfFault::NoEnd { at })
     );
-    long.push(0)?;
     assert_eq!(rt;
-        refusal(alloc, &long),
-        Some(TdfFault::TooMany { at: 262_144 })
+        in_long_file(alloc, 22_101, b"T\0")?,
+        Some(TdfFault::TooMany { at })
     );
-    long.truncate(four);
-    long.extend_from_slice(&table_with_name(alloc, 22_102)?)?;
     assert_eq!(rt;
-        refusal(alloc, &long),
-        Some(TdfFault::TooMany { at: 262_144 })
+        in_long_file(alloc, 22_102, &[])?,
+        Some(TdfFault::TooMany { at })
     );
     Ok(())
 }
@@ -318,24 +334,29 @@ fn two_tables_of_one_name(rt: HostRuntime) -> Result<(), Fail> {
     Ok(())
 }
 
+/// The refusal of a table with another number at a place.
+fn with_number(
+    alloc: Global,
+    table: &[u8],
+    at: usize,
+    number: u32,
+) -> Result<Option<TdfFault>, Fail> {
+    let mut other = Vec::from_slice(alloc, table.get(..at).ok_or("a place")?)?;
+    other.extend_from_slice(&number.to_be_bytes())?;
+    other.extend_from_slice(table.get(other.len()..).ok_or("the rest")?)?;
+    Ok(table_refusal(alloc, &other))
+}
+
 #[test]
 fn intervals_are_no_wild_times(rt: HostRuntime) -> Result<(), Fail> {
     let alloc = rt.alloc();
     // The interval is the item at 15; the time into it, at 7, may be any.
     let refused = Some(TdfFault::BadType { at: 15 });
-    let cases: [(usize, u32, Option<TdfFault>); 6] = [
-        (15, 0x7FFF_FFFF, None),
-        (15, 0xFFFF_FFFF, refused),
-        (19, 999_999_999, None),
-        (19, 1_000_000_000, refused),
-        (19, 0xFFFF_FFFF, refused),
-        (11, 0xFFFF_FFFF, None),
-    ];
-    for (at, number, expected) in cases {
-        let mut table = Vec::from_slice(alloc, &MINUTES[..at])?;
-        table.extend_from_slice(&number.to_be_bytes())?;
-        table.extend_from_slice(MINUTES.get(at + 4..).ok_or("the rest")?)?;
-        assert_eq!(rt; table_refusal(alloc, &table), expected);
-    }
+    assert_eq!(rt; with_number(alloc, &MINUTES, 15, 0x7FFF_FFFF)?, None);
+    assert_eq!(rt; with_number(alloc, &MINUTES, 15, 0xFFFF_FFFF)?, refused);
+    assert_eq!(rt; with_number(alloc, &MINUTES, 19, 999_999_999)?, None);
+    assert_eq!(rt; with_number(alloc, &MINUTES, 19, 1_000_000_000)?, refused);
+    assert_eq!(rt; with_number(alloc, &MINUTES, 19, 0xFFFF_FFFF)?, refused);
+    assert_eq!(rt; with_number(alloc, &MINUTES, 11, 0xFFFF_FFFF)?, None);
     Ok(())
 }
