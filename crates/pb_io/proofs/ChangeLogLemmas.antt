@@ -1,10 +1,10 @@
 -- What the log of a disk in memory holds, and of the link over it.
-use Rattle.std.proofs.Common.{◌≡◌, ℕ, zero, suc, ◌+◌, ◌-◌, ◌<◌, ◌≤◌, List, [], ◌∷◌, ◌++◌, length, take, drop, get_or, slice_get, Vec, refl, sym, ◌∙◌, ap, subst, arith, add-one, append_assoc, append-nil, length-append, length-drop}
+use Rattle.std.proofs.Common.{◌≡◌, ℕ, zero, suc, ◌+◌, ◌-◌, ◌<◌, ◌≤◌, List, [], ◌∷◌, ◌++◌, length, take, drop, get_or, slice_get, Vec, refl, sym, ◌∙◌, ap, arith, add-one, append_assoc, append-nil, length-append, length-drop}
 use Rattle.std.proofs.Math.Seq.{drop-cons}
 use Rattle.std.proofs.lemmas.Grind.{flat_map-append}
-use Rattle.std.proofs.lemmas.List.{take_all, drop_all, take_at, drop_at, take-append-drop, length-take}
+use Rattle.std.proofs.lemmas.List.{take_all, take-append-drop}
 use Rattle.std.specs.declared.alloc.Global.{Global}
-use Rattle.pb_base.specs.World.{World, frame_in, sent}
+use Rattle.pb_base.specs.World.{frame_in, sent}
 use Rattle.pb_io.specs.DiskLog.{Change, Linked, world_of}
 use Rattle.pb_io.specs.ChangeLog.{change_of, event_count, event_counts, changes_after}
 use Rattle.pb_io.specs.Events.{events_of, world_in}

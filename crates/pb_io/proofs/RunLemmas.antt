@@ -1,8 +1,7 @@
 -- How runs of disk calls follow one another, and what a crash leaves of them.
 use Rattle.std.proofs.Common.{◌≡◌, ℕ, ◌≤◌, List, Some, refl, sym, ◌∙◌, ap, arith}
-use Rattle.pb_io.proofs.CrashLemmas.{Shortened-refl}
 use Rattle.pb_io.proofs.Moments.{started, goes_on, LeavesOnly-trans, LeavesOnly-weaker}
-use Rattle.pb_io.specs.Crash.{Shortened, Follows, Within}
+use Rattle.pb_io.specs.Crash.{Follows, Within}
 use Rattle.pb_io.specs.Settled.{LeftBy, Runs}
 use Rattle.pb_io.specs.View.{View, Link, IsLawful, Elapses}
 

@@ -1,5 +1,5 @@
 //! A source in memory, with faults at calls of choice.
-ghost use Rattle.std.specs.Prelude.{◌≡◌, ◌==◌, ◌&&◌, ℕ, ◌<◌, ◌≤◌, min, length, IfOk, Some, is_err, nat_lt, if◌then◌else◌};
+ghost use Rattle.std.specs.Prelude.{◌≡◌, ◌==◌, ◌&&◌, ◌<◌, ◌≤◌, min, length, IfOk, Some, is_err, nat_lt, if◌then◌else◌};
 ghost use Rattle.pb_io.specs.Calls.{is_listed, after_call, no_calls};
 ghost use Rattle.pb_io.specs.Faults.{HasCause, counted};
 ghost use Rattle.pb_io.specs.Source.{CountsEnds, Reads};
