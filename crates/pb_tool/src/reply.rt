@@ -82,7 +82,7 @@ fn hello_reply(message: &[u8]) -> Option<Reply>
                 None
             }
         }
-        Ok(Ctrl::Hello { .. }) => None,
+        Ok(_) => None,
         Err(_) => None,
     }
 }
@@ -98,7 +98,7 @@ fn clock_reply(message: &[u8]) -> Option<Reply>
                 None
             }
         }
-        Ok(Bmp5::Clock { .. }) => None,
+        Ok(_) => None,
         Err(_) => None,
     }
 }
