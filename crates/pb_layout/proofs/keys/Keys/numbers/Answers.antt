@@ -1,4 +1,4 @@
-use Rattle.std.proofs.Common.{arith, rules}
+use Rattle.std.proofs.Common.{rules}
 use Rattle.pb_layout.specs.Reading.{key_at}
 use Rattle.pb_layout.proofs.Lengths.{numbers-refused, numbers-found}
 use Rattle.pb_layout.proofs.keys.Keys.numbers.Goals as goal
