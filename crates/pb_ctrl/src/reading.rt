@@ -1,13 +1,22 @@
+//! Reads a message: its type says which.
 ghost use Rattle.std.specs.Prelude.{◌≡◌, ℕ, ◌<◌, ◌≤◌, ◌↔◌, length, slice_index, Ok, Err, IfOk, IfErr};
 ghost use Rattle.pb_base.specs.Fields.{whole};
 ghost use Rattle.pb_layout.specs.Reading.{reading, Gives};
-ghost use Rattle.pb_ctrl.specs.Message.{Message, told, hello, hello_reply, layout, IsType, MessageReads};
+ghost use Rattle.pb_ctrl.specs.Message.{Message, told, layout, IsType, MessageReads};
 
-use crate::message::{Ctrl, HELLO, HELLO_REPLY};
+use crate::failure::read_failure;
+use crate::hello::{read_hello, read_hello_reply};
+use crate::message::{
+    BYE, Ctrl, FAILURE, GET_SETTINGS, GET_SETTINGS_REPLY, HELLO, HELLO_REPLY, HELLO_REQUEST,
+    SET_SETTINGS, SET_SETTINGS_REPLY,
+};
+use crate::settings::{
+    read_get_settings, read_get_settings_reply, read_set_settings, read_set_settings_reply,
+};
 use pb_base::MessageFault;
 use pb_layout::Keys;
 
-/// Reads a PakCtrl message. Bytes behind a layout's end are passed over.
+/// Reads a PakCtrl message. Bytes after a layout's end are passed over.
 pub fn read(message: &[u8]) -> Result<Ctrl, MessageFault>
     // What was read is what the bytes read as.
     ensures found { IfOk result (λ m. MessageReads (told m) message.now) }
@@ -33,36 +42,13 @@ fn read_all(message: &[u8]) -> Result<Ctrl, MessageFault>
     match kind {
         HELLO => read_hello(tran, &mut keys),
         HELLO_REPLY => read_hello_reply(tran, &mut keys),
+        BYE => Ok(Ctrl::Bye { tran }),
+        HELLO_REQUEST => Ok(Ctrl::HelloRequest { tran }),
+        FAILURE => read_failure(tran, &mut keys),
+        GET_SETTINGS => read_get_settings(tran, &mut keys),
+        GET_SETTINGS_REPLY => read_get_settings_reply(tran, &mut keys),
+        SET_SETTINGS => read_set_settings(tran, &mut keys),
+        SET_SETTINGS_REPLY => read_set_settings_reply(tran, &mut keys),
         _ => Err(MessageFault::UnknownType(kind)),
     }
-}
-
-#[tactic(auto, unfolding(pb_layout::specs::Reading::reading))]
-fn read_hello(tran: u8, keys: &mut Keys) -> Result<Ctrl, MessageFault>
-    ensures { Gives told result (reading (hello tran) keys.old) }
-{
-    let router = keys.byte()?;
-    let metric = keys.byte()?;
-    let verify = keys.half()?;
-    Ok(Ctrl::Hello {
-        tran,
-        router,
-        metric,
-        verify,
-    })
-}
-
-#[tactic(auto, unfolding(pb_layout::specs::Reading::reading))]
-fn read_hello_reply(tran: u8, keys: &mut Keys) -> Result<Ctrl, MessageFault>
-    ensures { Gives told result (reading (hello_reply tran) keys.old) }
-{
-    let router = keys.byte()?;
-    let metric = keys.byte()?;
-    let verify = keys.half()?;
-    Ok(Ctrl::HelloReply {
-        tran,
-        router,
-        metric,
-        verify,
-    })
 }

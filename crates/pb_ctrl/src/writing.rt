@@ -1,10 +1,15 @@
+//! Writes a message.
 ghost use Rattle.std.specs.Prelude.{IfOk, OnErr};
 ghost use Rattle.pb_base.specs.Put.{IsWritten, DoesNotFit};
-ghost use Rattle.pb_ctrl.specs.Message.{Hello, HelloReply, told, Valid, InRange, message_bytes};
+ghost use Rattle.pb_ctrl.specs.Message.{told, Valid, InRange, message_bytes};
 
-use crate::message::{Ctrl, HELLO, HELLO_REPLY};
+use crate::failure::write_failure;
+use crate::hello::{Greeting, write_bare, write_greeting};
+use crate::message::{BYE, Ctrl, HELLO, HELLO_REPLY, HELLO_REQUEST};
+use crate::settings::{
+    write_get_settings, write_get_settings_reply, write_set_settings, write_set_settings_reply,
+};
 use pb_base::Full;
-use pb_layout::{Piece, write_pieces};
 
 /// Writes a PakCtrl message to the front of `out`, and answers how many bytes it has. Where it doesn't fit nothing is
 /// written.
@@ -21,48 +26,58 @@ pub fn write(message: &Ctrl, out: &mut [u8]) -> Result<usize, Full>
             router,
             metric,
             verify,
-        } => write_hello(tran, router, metric, verify, out),
+        } => write_greeting(
+            HELLO,
+            tran,
+            Greeting {
+                router,
+                metric,
+                verify,
+            },
+            out,
+        ),
         Ctrl::HelloReply {
             tran,
             router,
             metric,
             verify,
-        } => write_hello_reply(tran, router, metric, verify, out),
+        } => write_greeting(
+            HELLO_REPLY,
+            tran,
+            Greeting {
+                router,
+                metric,
+                verify,
+            },
+            out,
+        ),
+        Ctrl::Bye { tran } => write_bare(BYE, tran, out),
+        Ctrl::HelloRequest { tran } => write_bare(HELLO_REQUEST, tran, out),
+        Ctrl::Failure {
+            tran,
+            err,
+            proto,
+            dst,
+            hops,
+            src,
+            carried,
+        } => write_failure(tran, err, (proto, dst), (hops, src), carried, out),
+        Ctrl::GetSettings { tran, code, first } => write_get_settings(tran, code, first, out),
+        Ctrl::GetSettingsReply {
+            tran,
+            outcome,
+            more,
+            settings,
+        } => write_get_settings_reply(tran, outcome, more, settings, out),
+        Ctrl::SetSettings {
+            tran,
+            code,
+            settings,
+        } => write_set_settings(tran, code, settings, out),
+        Ctrl::SetSettingsReply {
+            tran,
+            outcome,
+            number,
+        } => write_set_settings_reply(tran, outcome, number, out),
     }
-}
-
-fn write_hello(tran: u8, router: u8, metric: u8, verify: u16, out: &mut [u8]) -> Result<usize, Full>
-    ensures written { IfOk result (IsWritten (message_bytes (Hello tran router metric verify)) out.old out.new) }
-    ensures full { OnErr result (DoesNotFit (message_bytes (Hello tran router metric verify)) out.old out.new) }
-    ensures in_range { InRange (Hello tran router metric verify) }
-{
-    let pieces = [
-        Piece::Byte(HELLO),
-        Piece::Byte(tran),
-        Piece::Byte(router),
-        Piece::Byte(metric),
-        Piece::Half(verify),
-    ];
-    write_pieces(&pieces, out)
-}
-
-fn write_hello_reply(
-    tran: u8,
-    router: u8,
-    metric: u8,
-    verify: u16,
-    out: &mut [u8],
-) -> Result<usize, Full>
-    ensures written { IfOk result (IsWritten (message_bytes (HelloReply tran router metric verify)) out.old out.new) }
-    ensures full { OnErr result (DoesNotFit (message_bytes (HelloReply tran router metric verify)) out.old out.new) }
-    ensures in_range { InRange (HelloReply tran router metric verify) }
-{
-    let pieces = [
-        Piece::Byte(HELLO_REPLY),
-        Piece::Byte(tran),
-        Piece::Byte(router),
-        Piece::Byte(metric),
-        Piece::Half(verify),
-    ];
-    write_pieces(&pieces, out)
 }

@@ -1,10 +1,12 @@
 -- What a layout reads is what its values spell, and what they spell is read again.
-use Rattle.std.proofs.Common.{◌≡◌, ℕ, ◌+◌, List, ◌++◌, length, Bool, true, false, eqb, Result, Ok, Err, IfOk, refl, sym, ap, subst, ◌∙◌, append_assoc}
-use Rattle.std.proofs.lemmas.Bool.{eqb-true}
+use Rattle.std.proofs.Common.{◌≡◌, ℕ, ◌+◌, List, [], ◌∷◌, ◌++◌, length, Bool, true, false, eqb, Result, Ok, Err, IfOk, refl, sym, ap, subst, ◌∙◌, append_assoc, inl, inr}
+use Rattle.std.specs.List.{AllByRecursion}
+use Rattle.std.proofs.lemmas.Bool.{eqb-true, ne_eqb}
+use Rattle.std.proofs.lemmas.List.{append-nil}
 use Rattle.pb_base.specs.declared.message.MessageFault.{MessageFault}
 use Rattle.pb_base.specs.Fields.{Unread, IsBytes, whole}
 use Rattle.pb_layout.specs.Kind.{Value, spell, MayFollow}
-use Rattle.pb_layout.specs.Layout.{MessageLayout, Done, Stop, Key, Values, made, spelled, AllFit, AllObey, MayEnd, IsValid, bytes_of, ReadsAs}
+use Rattle.pb_layout.specs.Layout.{MessageLayout, Done, Stop, Key, Values, made, spelled, AllFit, AllObey, MayEnd, IsAmong, IsValid, bytes_of, ReadsAs}
 use Rattle.pb_layout.specs.Reading.{and_then, key_at, reading, Gives}
 use Rattle.pb_layout.proofs.Steps.{ok_is, and_ok}
 use Rattle.pb_layout.proofs.KeyLaws.{key-takes, key-again}
@@ -72,6 +74,11 @@ pub written-reads : {X : Type 0} (l : MessageLayout X) (keys : X → Values l) (
     → ReadsAs l keys x (bytes_of l keys x ++ rest)
 written-reads l keys x rest valid fits ends = record { valid = valid; fits = fits; rest = rest; parts = refl; ends = ends }
 
+-- It reads as itself alone, where nothing has to stand behind it.
+pub alone-reads : {X : Type 0} (l : MessageLayout X) (keys : X → Values l) → ((x : X) → MayEnd l (keys x) []) → (x : X) → IsValid l keys x → AllFit l (keys x)
+    → ReadsAs l keys x (bytes_of l keys x)
+alone-reads l keys ends x valid fits = record { valid = valid; fits = fits; rest = []; parts = sym (append-nil (bytes_of l keys x)); ends = ends x }
+
 -- ---- the same of what a function answered
 
 pub found_by : {X Y : Type 0} (l : MessageLayout X) (keys : X → Values l) → ((values : Values l) → keys (made l values) ≡ values)
@@ -88,10 +95,27 @@ only_by l keys view bytes (Err fault) e x reads = sym (reading-only l keys bytes
 pub one_message : {X : Type 0} (l : MessageLayout X) (keys : X → Values l) (bytes : List ℕ) (x y : X) → ReadsAs l keys x bytes → ReadsAs l keys y bytes → x ≡ y
 one_message l keys bytes x y p q = ok_is x y (sym (reading-only l keys bytes x p) ∙ reading-only l keys bytes y q)
 
--- what holds of one type, and of any other, holds of each
-pub at_type : (P : ℕ → Type 0) (n type : ℕ) → P n → (eqb type n ≡ false → P type) → P type
-at_type P n type this other = go (eqb type n) refl
+-- ---- types
+
+abbrev pub IsNone : List ℕ → ℕ → Type 0
+IsNone types type = AllByRecursion (λ t. eqb type t ≡ false) types
+
+-- what holds of each type of a list, and of what is none of them, holds of every type
+pub at_type : (types : List ℕ) (P : ℕ → Type 0) (type : ℕ) → AllByRecursion P types → (IsNone types type → P type) → P type
+at_type [] P type each other = other tt
+at_type (t ∷ types) P type each other = go (eqb type t) refl (λ no. at_type types P type each.1 (λ none. other (no, none)))
   where
-    go : (b : Bool) → eqb type n ≡ b → P type
-    go true e = subst P (sym (eqb-true type n e)) this
-    go false e = other e
+    go : (b : Bool) → eqb type t ≡ b → (eqb type t ≡ false → P type) → P type
+    go true e more = subst P (sym (eqb-true type t e)) each.0
+    go false e more = more e
+
+pub among : (types : List ℕ) (P : ℕ → Type 0) (type : ℕ) → AllByRecursion P types → IsAmong types type → P type
+among [] P type each is = absurd is
+among (t ∷ types) P type each is = elim is [
+  | inl e ↦ subst P (sym e) each.0
+  | inr more ↦ among types P type each.1 more
+]
+
+pub is_none : (types : List ℕ) (type : ℕ) → (IsAmong types type → ⊥) → IsNone types type
+is_none [] type other = tt
+is_none (t ∷ types) type other = (ne_eqb type t (λ e. other (inl e)), is_none types type (λ more. other (inr more)))

@@ -1,3 +1,4 @@
+pub mod Lengths
 pub mod Steps
 pub mod ListLaws
 pub mod KeyLaws

@@ -1,5 +1,5 @@
 -- Layouts of messages, and what it means that bytes are a message, or that they read as one.
-use Rattle.std.specs.Prelude.{◌≡◌, ℕ, zero, suc, List, [], ◌++◌}
+use Rattle.std.specs.Prelude.{◌≡◌, ◌⊎◌, ℕ, zero, suc, List, [], ◌∷◌, ◌++◌}
 use Rattle.pb_base.specs.declared.message.MessageFault.{MessageFault}
 use Rattle.pb_layout.specs.Kind.{Kind, Value, spell, Fits, Obeys, MayFollow}
 
@@ -53,6 +53,11 @@ abbrev pub MayEnd : {X : Type 0} → (l : MessageLayout X) → Values l → List
 MayEnd (Done x) values rest = Unit {0}
 MayEnd (Stop fault) values rest = Unit {0}
 MayEnd (Key k next) values rest = MayFollow k values.0 (spelled (next values.0) values.1 ++ rest) × MayEnd (next values.0) values.1 rest
+
+-- The number is among these.
+abbrev pub IsAmong : List ℕ → ℕ → Type 0
+IsAmong [] n = ⊥
+IsAmong (m ∷ ms) n = (n ≡ m) ⊎ IsAmong ms n
 
 module _ {X : Type 0} (l : MessageLayout X) (keys : X → Values l) where
   -- The message obeys its layout: its keys' values are as they are asked to be, and it is the message that they make.

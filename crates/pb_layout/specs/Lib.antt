@@ -2,3 +2,4 @@ pub mod Kind
 pub mod Layout
 pub mod Reading
 pub mod Pieces
+pub mod Inside

@@ -1,9 +1,10 @@
 //! Readers of the keys of a message.
 ghost use Rattle.std.specs.Prelude.{◌≡◌, Ok, Err, IfOk, IfErr, OnErr};
 ghost use Rattle.pb_base.specs.Fields.{Unread, whole};
-ghost use Rattle.pb_layout.specs.Kind.{Byte, Between, Half, Word, Split, Time, Text, Rest, AtMost};
+ghost use Rattle.pb_layout.specs.Kind.{Byte, Between, Half, Word, Split, Time, Text, Rest, AtMost, Numbers, Settings};
 ghost use Rattle.pb_layout.specs.Reading.{key_at};
 
+use crate::lists::{check_settings, numbers_len};
 use pb_base::{FieldFault, Fields, MessageFault, Nsec};
 use std::marker::Model;
 
@@ -144,5 +145,33 @@ impl<'a> Keys<'a> {
     {
         let len = most.min(self.fields.rest().len());
         self.fields.take(len).unwrap()
+    }
+
+    /// The bytes of numbers of two bytes, without the 0 that ends them.
+    #[tactic(auto, unfolding(crate::specs::Reading::key_at))]
+    pub fn numbers(&mut self) -> Result<&'a [u8], MessageFault>
+        ensures read { IfOk result (λ numbers. key_at Numbers self.old ≡ Ok (numbers.now, self.new)) }
+        ensures refused { IfErr result (λ fault. key_at Numbers self.old ≡ Err fault) }
+        ensures kept { OnErr result (self.new ≡ self.old) }
+    {
+        let left = self.fields.rest();
+        let len = numbers_len(left);
+        if left.len() - len < 2 {
+            let at = self.fields.end() - (left.len() - len);
+            return Err(MessageFault::Malformed { at });
+        }
+        self.fields.take(len + 2).unwrap();
+        Ok(&left[..len])
+    }
+
+    /// The bytes of settings, which are all that are left.
+    #[tactic(auto, unfolding(crate::specs::Reading::key_at))]
+    pub fn settings(&mut self) -> Result<&'a [u8], MessageFault>
+        ensures read { IfOk result (λ settings. key_at Settings self.old ≡ Ok (settings.now, self.new)) }
+        ensures refused { IfErr result (λ fault. key_at Settings self.old ≡ Err fault) }
+        ensures kept { OnErr result (self.new ≡ self.old) }
+    {
+        check_settings(self.fields.rest(), self.fields.end())?;
+        Ok(self.rest())
     }
 }

@@ -2,6 +2,7 @@
 #![tactic(auto)]
 
 mod keys;
+mod lists;
 mod pieces;
 
 pub use keys::Keys;

@@ -1,5 +1,5 @@
-ghost use Rattle.std.specs.Prelude.{◌≡◌, ℕ, ◌<◌, ◌≤◌, length, IfOk, OnOk, OnErr};
-ghost use Rattle.pb_base.specs.Put.{writing, Writes, LacksRoom, IsWritten, DoesNotFit};
+ghost use Rattle.std.specs.Prelude.{◌≡◌, ℕ, ◌+◌, ◌<◌, ◌≤◌, ◌++◌, length, IfOk, OnErr};
+ghost use Rattle.pb_base.specs.Put.{writing, with_piece, IsWritten, DoesNotFit};
 ghost use Rattle.pb_layout.specs.Pieces.{piece_bytes, pieces_bytes};
 
 use pb_base::{Full, Nsec, Put};
@@ -17,9 +17,13 @@ pub enum Piece<'a> {
     Time(Nsec),
     /// The bytes as they are.
     Bytes(&'a [u8]),
+    /// A text, and the zero byte that ends it.
+    Text(&'a [u8]),
+    /// Numbers of two bytes each, as their bytes, and the 0 that ends them.
+    Numbers(&'a [u8]),
 }
 
-/// Writes the pieces one behind another to the front of `out`, and answers how many bytes they have. Where they don't
+/// Writes the pieces one after another to the front of `out`, and answers how many bytes they have. Where they don't
 /// all fit nothing is written.
 pub fn write_pieces(pieces: &[Piece], out: &mut [u8]) -> Result<usize, Full>
     ensures written { IfOk result (IsWritten (pieces_bytes pieces.now) out.old out.new) }
@@ -28,7 +32,7 @@ pub fn write_pieces(pieces: &[Piece], out: &mut [u8]) -> Result<usize, Full>
     let len = len_within(pieces, out.len())?;
     let mut put = Put::new(out);
     for piece in pieces {
-        put_piece(*piece, &mut put)?;
+        put_piece(*piece, &mut put);
     }
     Ok(len)
 }
@@ -58,18 +62,31 @@ fn piece_len(piece: Piece) -> usize
         Piece::Word(_) => 4,
         Piece::Time(_) => 8,
         Piece::Bytes(bytes) => bytes.len(),
+        Piece::Text(text) => text.len() + 1,
+        Piece::Numbers(numbers) => numbers.len() + 2,
     }
 }
 
-fn put_piece(piece: Piece, put: &mut Put) -> Result<(), Full>
-    ensures written { OnOk result (Writes (writing put.old) (piece_bytes piece.entry) (writing put.new)) }
-    ensures full { OnErr result (LacksRoom (writing put.old) (piece_bytes piece.entry) (writing put.new)) }
+// Writes a piece that has room.
+fn put_piece(piece: Piece, put: &mut Put)
+    requires { length (piece_bytes piece) ≤ length (writing put.old).room }
+    ensures { writing put.new ≡ with_piece (piece_bytes piece.entry) (writing put.old) }
 {
     match piece {
-        Piece::Byte(n) => put.u8(n),
-        Piece::Half(n) => put.u16(n),
-        Piece::Word(n) => put.u32(n),
-        Piece::Time(time) => put.nsec(time),
-        Piece::Bytes(bytes) => put.bytes(bytes),
+        Piece::Byte(n) => put.u8(n).unwrap(),
+        Piece::Half(n) => put.u16(n).unwrap(),
+        Piece::Word(n) => put.u32(n).unwrap(),
+        Piece::Time(time) => put.nsec(time).unwrap(),
+        Piece::Bytes(bytes) => put.bytes(bytes).unwrap(),
+        Piece::Text(text) => put_both(text, &[0], put),
+        Piece::Numbers(numbers) => put_both(numbers, &[0, 0], put),
     }
+}
+
+fn put_both(bytes: &[u8], end: &[u8], put: &mut Put)
+    requires { length bytes.now + length end.now ≤ length (writing put.old).room }
+    ensures { writing put.new ≡ with_piece (bytes.now ++ end.now) (writing put.old) }
+{
+    put.bytes(bytes).unwrap();
+    put.bytes(end).unwrap();
 }

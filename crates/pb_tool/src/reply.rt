@@ -85,7 +85,7 @@ fn hello_reply(message: &[u8]) -> Option<Reply>
                 None
             }
         }
-        Ok(Ctrl::Hello { .. }) => None,
+        Ok(_) => None,
         Err(_) => None,
     }
 }
@@ -102,7 +102,7 @@ fn clock_reply(message: &[u8]) -> Option<Reply>
                 None
             }
         }
-        Ok(Bmp5::Clock { .. }) => None,
+        Ok(_) => None,
         Err(_) => None,
     }
 }
