@@ -18,6 +18,7 @@ numbers-short (high ∷ low ∷ rest) at short = go (eqb (high + low) 0) refl sh
   where
     n : ℕ
     n = numbers_len rest
+
     go : (b : Bool) → eqb (high + low) 0 ≡ b → suc (suc (length rest)) < cond b 0 (2 + n) + 2 → (length rest < n + 2 → numbers_at rest (at + 2) ≡ Err (Malformed (at + 2 + n)))
         → cond b (Ok ([], unread (at + 2) rest)) (and_then (numbers_at rest (at + 2)) (with_number high low)) ≡ Err (Malformed (at + cond b 0 (2 + n)))
     go true e less more = absurd (omega (arith, less))
@@ -31,8 +32,10 @@ numbers-read (high ∷ low ∷ rest) at long = go (eqb (high + low) 0) refl long
   where
     n : ℕ
     n = numbers_len rest
+
     same : (m k : ℕ) (x y z w : List ℕ) → m ≡ k → x ≡ y → z ≡ w → (let r : Result (List ℕ × Unread) MessageFault = Ok (x, unread m z) in r ≡ Ok (y, unread k w))
     same m k x y z w e f g = rw (e, f, g) refl
+
     go : (b : Bool) → eqb (high + low) 0 ≡ b → cond b 0 (2 + n) + 2 ≤ suc (suc (length rest))
         → (n + 2 ≤ length rest → numbers_at rest (at + 2) ≡ Ok (take n rest, unread (at + 2 + (n + 2)) (drop (n + 2) rest)))
         → cond b (Ok ([], unread (at + 2) rest)) (and_then (numbers_at rest (at + 2)) (with_number high low))
