@@ -9,6 +9,7 @@ pub mod Faults
 pub mod InMemory
 pub mod Inbox
 pub mod Outside
+pub mod Page
 pub mod Settled
 pub mod Sink
 pub mod Site
