@@ -1,6 +1,7 @@
 pub mod Lengths
 pub mod Steps
 pub mod ListLaws
+pub mod ItemLaws
 pub mod KeyLaws
 pub mod LayoutLaws
 pub mod PieceLaws

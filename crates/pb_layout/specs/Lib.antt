@@ -1,5 +1,6 @@
 pub mod Kind
 pub mod Layout
+pub mod Lists
 pub mod Reading
 pub mod Pieces
 pub mod Inside
