@@ -1,11 +1,12 @@
 -- How texts that are added to a page, one after another, make up one text.
-use Rattle.std.proofs.Common.{◌≡◌, ℕ, ◌+◌, ◌<◌, ◌≤◌, take, get_or, List, [], ◌∷◌, ◌++◌, Bool, true, false, Option, length, refl, sym, ap, subst, ◌∙◌, append_assoc, arith}
-use Rattle.std.proofs.lemmas.Bool.{true≢false, false≢true}
+use Rattle.std.proofs.Common.{◌≡◌, ℕ, ◌+◌, ◌<◌, ◌≤◌, take, get_or, List, [], ◌∷◌, ◌++◌, Bool, true, false, Option, length, refl, sym, ap, subst, ◌∙◌, append_assoc, arith, Result, Ok, Err}
+use Rattle.std.proofs.lemmas.Bool.{false≢true}
 use Rattle.std.proofs.lemmas.List.{append-nil, take_more}
 use Rattle.std.proofs.lemmas.Grind.{flat_map-append}
 use Rattle.std.proofs.KnownBytes.{Appends-nil, Appends-trans}
+use Rattle.std.specs.Prelude.{MatchResult}
 use Rattle.std.specs.Io.KnownBytes.{Appends}
-use Rattle.pb_io.specs.Faults.{Rose}
+use Rattle.pb_io.specs.Faults.{Rose, HasCause}
 use Rattle.pb_io.specs.Outside.{Output}
 use Rattle.pb_io.specs.Sink.{AppendsPrefix}
 use Rattle.pb_io.specs.declared.page.Part.{Part}
@@ -67,6 +68,16 @@ Adds-after {s} {t} {a} {b} {c} g f = Adds-trans s t a b c f g
 pub Adds-as : (s t : List ℕ) (a b : Printing) → s ≡ t → Adds s a b → Adds t a b
 Adds-as s t a b is f = subst (λ l. Adds l a b) is f
 
+-- two and three texts, and what they make up
+pub Adds-two : (s t text : List ℕ) (a b c : Printing) → s ++ t ≡ text → Adds s a b → Adds t b c → Adds text a c
+Adds-two s t text a b c is f g = Adds-as (s ++ t) text a c is (Adds-trans s t a b c f g)
+
+pub Adds-three : (s t u text : List ℕ) (a b c d : Printing) → s ++ (t ++ u) ≡ text → Adds s a b → Adds t b c → Adds u c d → Adds text a d
+Adds-three s t u text a b c d is f g h = Adds-two s (t ++ u) text a b d is f (Adds-trans t u b c d g h)
+
+pub Adds-four : (s t u v text : List ℕ) (a b c d e : Printing) → s ++ (t ++ (u ++ v)) ≡ text → Adds s a b → Adds t b c → Adds u c d → Adds v d e → Adds text a e
+Adds-four s t u v text a b c d e is f g h i = Adds-two s (t ++ (u ++ v)) text a b e is f (Adds-three t u v (t ++ (u ++ v)) b c d e refl g h i)
+
 AddsBy-nothing : (f : Bool) (a : Printing) → AddsBy f f [] a a
 AddsBy-nothing false a = record { flushed = []; appends = Appends-nil a.out.written; same = sym (append-nil a.page.text); faults = refl }
 AddsBy-nothing true a = record { out = refl }
@@ -105,19 +116,42 @@ Adds-next parts i d a b c lt f g =
 
 -- ---- a page that is flushed
 
--- all of a text was written that began on a blank page and ended on one
-pub Appends-flushed : (text : List ℕ) (o n : Output) → Adds text (record { page = blank; out = o }) (record { page = blank; out = n }) → Appends o.written n.written text
-Appends-flushed text o n adds =
-    subst (Appends o.written n.written) (sym (append-nil adds.by.flushed) ∙ adds.by.same) adds.by.appends
+-- a text that was added to a blank page, which was flushed then
+pub Adds-flushed : (text : List ℕ) (p q r : Waiting) (o n m : Output) → p ≡ blank → Adds text (record { page = p; out = o }) (record { page = q; out = n })
+    → Adds [] (record { page = q; out = n }) (record { page = r; out = m }) → Adds text (record { page = blank; out = o }) (record { page = r; out = m })
+Adds-flushed text p q r o n m empty adds flush =
+    subst (λ (w : Waiting). Adds text (record { page = w; out = o }) (record { page = r; out = m })) empty
+    (Adds-as (text ++ []) text _ _ (append-nil text) (Adds-trans text [] _ _ _ adds flush))
 
-pub kept-flushed : (text : List ℕ) (o n : Output) → Adds text (record { page = blank; out = o }) (record { page = blank; out = n }) → n.faults ≡ o.faults
-kept-flushed text o n adds = adds.by.faults
+whole : (text : List ℕ) (r : Waiting) (o m : Output) → r ≡ blank → Adds text (record { page = blank; out = o }) (record { page = r; out = m })
+    → Grows text (record { page = blank; out = o }) (record { page = blank; out = m })
+whole text r o m empty adds =
+    let e : Adds text (record { page = blank; out = o }) (record { page = blank; out = m }) =
+    subst (λ (w : Waiting). Adds text (record { page = blank; out = o }) (record { page = w; out = m })) empty adds in
+    e.by
+
+-- Where the page is blank again, all of the text was written.
+pub Appends-flushed : (text : List ℕ) (r : Waiting) (o m : Output) → r ≡ blank → Adds text (record { page = blank; out = o }) (record { page = r; out = m })
+    → Appends o.written m.written text
+Appends-flushed text r o m empty adds =
+    let g = whole text r o m empty adds in
+    subst (Appends o.written m.written) (sym (append-nil g.flushed) ∙ g.same) g.appends
 
 broken-by : (f : Bool) (text : List ℕ) (a b : Printing) → f ≡ true → AddsBy false f text a b → BreaksOff text a b
 broken-by false text a b is adds = absurd (false≢true is)
 broken-by true text a b is adds = adds
 
--- a prefix of a text was written that began on a blank page, where a write failed
-pub BreaksOff-flushed : (text : List ℕ) (o : Output) (b : Printing) → b.page.failed ≡ true → Adds text (record { page = blank; out = o }) b
-    → BreaksOff text (record { page = blank; out = o }) b
-BreaksOff-flushed text o b is adds = broken-by b.page.failed text _ b is adds.by
+-- Where a write failed, a prefix of the text was written.
+pub BreaksOff-flushed : (text : List ℕ) (r : Waiting) (o m : Output) → r.failed ≡ true → Adds text (record { page = blank; out = o }) (record { page = r; out = m })
+    → BreaksOff text (record { page = blank; out = o }) (record { page = r; out = m })
+BreaksOff-flushed text r o m is adds = broken-by r.failed text _ _ is adds.by
+
+-- The count of faults says so.
+pub HasCause-flushed : {E : Type 0} (result : Result Unit E) (text : List ℕ) (r : Waiting) (o m : Output) → MatchResult result (λ u. r ≡ blank) (λ e. r.failed ≡ true)
+    → Adds text (record { page = blank; out = o }) (record { page = r; out = m }) → HasCause o.faults m.faults result
+HasCause-flushed (Ok u) text r o m empty adds =
+    let same = (whole text r o m empty adds).faults in
+    record { later = omega (arith, same); failed = tt; kept = same }
+HasCause-flushed (Err e) text r o m is adds =
+    let b = BreaksOff-flushed text r o m is adds in
+    record { later = b.later; failed = b.rose; kept = tt }

@@ -1,5 +1,6 @@
 -- Text on its way to a sink: what waits on a page, and what was written.
-use Rattle.std.specs.Prelude.{◌≡◌, ℕ, ◌≤◌, List, [], ◌++◌, Bool, true, false, Option, decimal}
+use Rattle.std.specs.Prelude.{◌≡◌, ℕ, ◌≤◌, List, [], ◌∷◌, ◌++◌, Bool, true, false, Option, decimal}
+use Rattle.std.specs.Fmt.{signed_decimal}
 use Rattle.std.specs.List.{flat_map}
 use Rattle.std.specs.Io.KnownBytes.{Appends}
 use Rattle.pb_io.specs.Faults.{Rose}
@@ -51,9 +52,15 @@ AddsBy true true text old new = StandsStill old new
 pub record Adds (text : List ℕ) (old new : Printing) : Type 0 where
   pub by : AddsBy old.page.failed new.page.failed text old new
 
+-- texts one after another
+abbrev pub joined : List (List ℕ) → List ℕ
+joined [] = []
+joined (text ∷ texts) = text ++ joined texts
+
 abbrev pub part_text : part.Part → List ℕ
 part_text (part.TheVariants.Text text) = text.now
 part_text (part.TheVariants.Number n) = decimal n
+part_text (part.TheVariants.Signed n) = signed_decimal n
 
 -- the text of parts, one after another
 abbrev pub parts_text : List part.Part → List ℕ

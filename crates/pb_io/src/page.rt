@@ -15,6 +15,8 @@ pub enum Part<'a> {
     Text(&'a [u8]),
     /// A number in decimal.
     Number(u64),
+    /// A number in decimal, with a minus where it is below 0.
+    Signed(i32),
 }
 
 /// Text on its way to a sink: a page of it is gathered and then written. It goes on over a failed write, after which
@@ -93,6 +95,7 @@ impl Page {
         match part {
             Part::Text(text) => self.push(text, out),
             Part::Number(n) => self.push_decimal(n, out),
+            Part::Signed(n) => self.push(itoa::Buffer::new().format(n).as_bytes(), out),
         }
     }
 

@@ -1,10 +1,12 @@
 mod CauseLemmas
+mod ClosingLemmas
 mod ExchangeLemmas
 mod JudgeLemmas
 mod LineLemmas
 mod PingLemmas
 mod PrintLemmas
 mod RequestLemmas
+mod SpelledLemmas
 mod StreamLemmas
 mod TakesLemmas
 mod WordLemmas

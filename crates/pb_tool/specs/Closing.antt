@@ -1,6 +1,7 @@
 -- Closing lines.
-use Rattle.std.specs.Prelude.{◌≡◌, ℕ, ◌⊎◌, List, Option, codes}
+use Rattle.std.specs.Prelude.{◌≡◌, ℕ, ◌⊎◌, List, Option, true, codes}
 use Rattle.std.specs.Io.KnownBytes.{Appends}
+use Rattle.pb_io.specs.Page.{Waiting, blank}
 use Rattle.pb_io.specs.Sink.{AppendsPrefix}
 use Rattle.pb_tool.specs.declared.status.Status.{Status}
 use Rattle.pb_tool.specs.declared.status.Status.TheVariants.{Usage, WriteFault}
@@ -9,6 +10,10 @@ use Rattle.pb_tool.specs.declared.status.Status.TheVariants.{Usage, WriteFault}
 abbrev pub Closes : Status → Status → List ℕ → Option (List ℕ) → Option (List ℕ) → Type 0
 Closes status result line written_old written_new =
     ((result ≡ status) × Appends written_old written_new line) ⊎ ((result ≡ WriteFault) × AppendsPrefix written_old written_new line)
+
+-- all that was added to a page was written, or the answer says that a write failed
+abbrev pub Finished : Status → Status → Waiting → Type 0
+Finished status result page = ((result ≡ status) × (page ≡ blank)) ⊎ ((result ≡ WriteFault) × (page.failed ≡ true))
 
 -- words of no listed form: their closing line, or a front of it
 abbrev pub Refused : Status → Option (List ℕ) → Option (List ℕ) → Type 0

@@ -1,8 +1,9 @@
 -- What `ping` prints, and its status, by its answer.
-use Rattle.std.specs.Prelude.{◌≡◌, ℕ, List, ◌++◌, Result, Ok, Err, codes, decimal}
+use Rattle.std.specs.Prelude.{◌≡◌, ℕ, List, [], ◌∷◌, ◌++◌, Result, Ok, Err, codes, decimal}
 use Rattle.pb_base.specs.declared.nsec.Nsec.{Nsec}
 use Rattle.pb_io.specs.Faults.{Rose}
 use Rattle.pb_io.specs.Outside.{Talk}
+use Rattle.pb_io.specs.Page.{joined}
 use Rattle.pb_tool.specs.declared.greeting.Pinged.{Pinged}
 use Rattle.pb_tool.specs.declared.greeting.Cause.{Cause}
 use Rattle.pb_tool.specs.declared.greeting.Cause.TheVariants.{NoAnswer, Flooded, Refused}
@@ -16,31 +17,34 @@ use Rattle.pb_value.specs.TimeText.{time_text}
 
 -- `hello NODE router B metric B verify H`
 unfoldable pub hello_text : (node router metric verify : ℕ) → List ℕ
-hello_text node router metric verify =
-    codes "hello " ++ decimal node ++ codes " router " ++ decimal router ++ codes " metric " ++ decimal metric ++ codes " verify " ++ decimal verify ++ codes "\n"
+hello_text node router metric verify = joined (
+    codes "hello " ∷ decimal node ∷ codes " router " ∷ decimal router ∷ codes " metric " ∷ decimal metric ∷ codes " verify " ∷ decimal verify ∷ codes "\n" ∷ [])
 
 -- `clock NODE TIME`
 unfoldable pub clock_text : ℕ → Nsec → List ℕ
-clock_text node time = codes "clock " ++ decimal node ++ codes " " ++ time_text time ++ codes "\n"
+clock_text node time = joined (codes "clock " ∷ decimal node ∷ codes " " ∷ time_text time ∷ codes "\n" ∷ [])
 
 unfoldable pub cause_text : Cause → List ℕ
 cause_text NoAnswer = codes "no answer"
 cause_text Flooded = codes "flooded"
-cause_text (Refused c) = codes "refused " ++ decimal c
+cause_text (Refused c) = joined (codes "refused " ∷ decimal c ∷ [])
 
 -- `hello NODE CAUSE`
 unfoldable pub no_hello_text : ℕ → Cause → List ℕ
-no_hello_text node cause = codes "hello " ++ decimal node ++ codes " " ++ cause_text cause ++ codes "\n"
+no_hello_text node cause = joined (codes "hello " ∷ decimal node ∷ codes " " ∷ cause_text cause ∷ codes "\n" ∷ [])
 
 -- `clock NODE CAUSE`
 unfoldable pub no_clock_text : ℕ → Cause → List ℕ
-no_clock_text node cause = codes "clock " ++ decimal node ++ codes " " ++ cause_text cause ++ codes "\n"
+no_clock_text node cause = joined (codes "clock " ∷ decimal node ∷ codes " " ∷ cause_text cause ∷ codes "\n" ∷ [])
+
+unfoldable pub fault_text : ℕ → PingFault → List ℕ
+fault_text node fault.LinkFault = codes "pakbus: link fault\n"
+fault_text node (fault.Hello cause) = no_hello_text node cause
+fault_text node (fault.Clock cause router metric verify) = hello_text node router metric verify ++ no_clock_text node cause
 
 unfoldable pub ping_text : ℕ → Result Pinged PingFault → List ℕ
 ping_text node (Ok p) = hello_text node p.router p.metric p.verify ++ clock_text node p.time
-ping_text node (Err (fault.Hello cause)) = no_hello_text node cause
-ping_text node (Err (fault.Clock cause router metric verify)) = hello_text node router metric verify ++ no_clock_text node cause
-ping_text node (Err fault.LinkFault) = codes "pakbus: link fault\n"
+ping_text node (Err f) = fault_text node f
 
 abbrev pub ping_status : Result Pinged PingFault → Status
 ping_status (Ok p) = status.Done

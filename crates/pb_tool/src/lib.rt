@@ -5,8 +5,6 @@ mod closing;
 mod commands;
 mod exchange;
 mod greeting;
-mod lines;
-mod page;
 mod ping_lines;
 mod reply;
 mod request;

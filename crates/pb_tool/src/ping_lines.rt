@@ -1,20 +1,20 @@
 //! The lines of `ping`.
-ghost use Rattle.std.specs.Prelude.{◌≡◌, ◌≢◌, ◌≤◌, ◌+◌, ◌++◌, length};
+ghost use Rattle.std.specs.Prelude.{◌≡◌, ◌≢◌};
 ghost use Rattle.pb_io.specs.Disk.{ReadsOnly};
 ghost use Rattle.pb_io.specs.Outside.{talk};
+ghost use Rattle.pb_io.specs.Page.{Adds, printing};
 ghost use Rattle.pb_io.specs.Site.{SendsAtMost};
 ghost use Rattle.pb_io.specs.View.{LeavesOnly};
 ghost use Rattle.pb_tool.specs.Causes.{Counts};
 ghost use Rattle.pb_tool.specs.Ping.{ping_frames};
+ghost use Rattle.pb_tool.specs.PingText.{hello_text, clock_text, cause_text, no_hello_text, no_clock_text, fault_text, ping_text, ping_status, RanPing};
 ghost use Rattle.pb_value.specs.TimeText.{time_text};
-ghost use Rattle.pb_tool.specs.PingText.{hello_text, clock_text, cause_text, no_hello_text, no_clock_text, ping_text, ping_status, RanPing};
 
 use crate::Status;
-use crate::closing::close;
+use crate::closing::finish;
 use crate::greeting::{Cause, PingFault, Pinged, ping};
-use crate::page::Page;
 use pb_base::{NodeId, Nsec};
-use pb_io::{Sink, Site};
+use pb_io::{Page, Part, Sink, Site};
 use pb_value::{TIME_TEXT_MAX, time_into};
 
 /// Pings a node, and prints what it answered.
@@ -30,8 +30,8 @@ pub fn print<S: Site, O: Sink>(me: NodeId, node: NodeId, site: &mut S, out: &mut
 {
     let answer = ping(site, me, node);
     let mut page = Page::new();
-    push_answer(&mut page, node.get(), &answer);
-    close(out, page.as_slice(), status_of(&answer))
+    push_answer(&mut page, node.get(), &answer, out);
+    finish(&mut page, out, status_of(&answer))
 }
 
 fn status_of(answer: &Result<Pinged, PingFault>) -> Status
@@ -45,102 +45,116 @@ fn status_of(answer: &Result<Pinged, PingFault>) -> Status
     }
 }
 
-#[tactic(auto, using(std::proofs::lemmas::List::append_assoc), unfolding(crate::specs::PingText::ping_text))]
-fn push_answer(page: &mut Page, node: u16, answer: &Result<Pinged, PingFault>)
-    requires room { length page.old + 1000 ≤ 65536 }
-    ensures { page.new ≡ page.old ++ ping_text node answer.now }
+#[tactic(auto, unfolding(crate::specs::PingText::ping_text))]
+fn push_answer<O: Sink>(page: &mut Page, node: u16, answer: &Result<Pinged, PingFault>, out: &mut O)
+    ensures { Adds (ping_text node answer.now) (printing O.Sink page.old out.old) (printing O.Sink page.new out.new) }
 {
     match *answer {
         Ok(pinged) => {
-            push_hello(page, node, pinged.router, pinged.metric, pinged.verify);
-            push_clock(page, node, pinged.time);
+            push_hello(page, node, pinged.router, pinged.metric, pinged.verify, out);
+            push_clock(page, node, pinged.time, out);
         }
-        Err(PingFault::LinkFault) => page.push(b"pakbus: link fault\n"),
-        Err(PingFault::Hello(cause)) => push_no_hello(page, node, cause),
-        Err(PingFault::Clock(cause, router, metric, verify)) => {
-            push_hello(page, node, router, metric, verify);
-            push_no_clock(page, node, cause);
+        Err(fault) => push_fault(page, node, fault, out),
+    }
+}
+
+#[tactic(auto, unfolding(crate::specs::PingText::fault_text))]
+fn push_fault<O: Sink>(page: &mut Page, node: u16, fault: PingFault, out: &mut O)
+    ensures { Adds (fault_text node fault) (printing O.Sink page.old out.old) (printing O.Sink page.new out.new) }
+{
+    match fault {
+        PingFault::LinkFault => page.push(b"pakbus: link fault\n", out),
+        PingFault::Hello(cause) => push_no_hello(page, node, cause, out),
+        PingFault::Clock(cause, router, metric, verify) => {
+            push_hello(page, node, router, metric, verify, out);
+            push_no_clock(page, node, cause, out);
         }
     }
 }
 
-#[tactic(auto, using(std::proofs::lemmas::List::append_assoc), unfolding(crate::specs::PingText::hello_text))]
-fn push_hello(page: &mut Page, node: u16, router: u8, metric: u8, verify: u16)
-    requires room { length page.old + 200 ≤ 65536 }
-    ensures text { page.new ≡ page.old ++ hello_text node router metric verify }
-    ensures short { length page.new ≤ length page.old + 200 }
+#[tactic(auto, unfolding(crate::specs::PingText::hello_text))]
+fn push_hello<O: Sink>(page: &mut Page, node: u16, router: u8, metric: u8, verify: u16, out: &mut O)
+    ensures { Adds (hello_text node router metric verify) (printing O.Sink page.old out.old) (printing O.Sink page.new out.new) }
 {
-    page.push(b"hello ");
-    page.push_decimal(u64::from(node));
-    page.push(b" router ");
-    page.push_decimal(u64::from(router));
-    page.push(b" metric ");
-    page.push_decimal(u64::from(metric));
-    page.push(b" verify ");
-    page.push_decimal(u64::from(verify));
-    page.push(b"\n");
+    page.put(
+        &[
+            Part::Text(b"hello "),
+            Part::Number(u64::from(node)),
+            Part::Text(b" router "),
+            Part::Number(u64::from(router)),
+            Part::Text(b" metric "),
+            Part::Number(u64::from(metric)),
+            Part::Text(b" verify "),
+            Part::Number(u64::from(verify)),
+            Part::Text(b"\n"),
+        ],
+        out,
+    );
 }
 
-#[tactic(auto, using(std::proofs::lemmas::List::append_assoc), unfolding(crate::specs::PingText::clock_text))]
-fn push_clock(page: &mut Page, node: u16, time: Nsec)
-    requires room { length page.old + 200 ≤ 65536 }
-    ensures { page.new ≡ page.old ++ clock_text node time }
+fn push_clock<O: Sink>(page: &mut Page, node: u16, time: Nsec, out: &mut O)
+    ensures { Adds (clock_text node time) (printing O.Sink page.old out.old) (printing O.Sink page.new out.new) }
 {
-    page.push(b"clock ");
-    page.push_decimal(u64::from(node));
-    page.push(b" ");
-    push_time(page, time);
-    page.push(b"\n");
+    page.put(
+        &[
+            Part::Text(b"clock "),
+            Part::Number(u64::from(node)),
+            Part::Text(b" "),
+        ],
+        out,
+    );
+    push_time(page, time, out);
+    page.push(b"\n", out);
 }
 
-/// The text of a time, for which there is room.
-fn push_time(page: &mut Page, time: Nsec)
-    requires room { length page.old + TIME_TEXT_MAX ≤ 65536 }
-    ensures text { page.new ≡ page.old ++ time_text time }
-    ensures short { length page.new ≤ length page.old + TIME_TEXT_MAX }
+fn push_time<O: Sink>(page: &mut Page, time: Nsec, out: &mut O)
+    ensures { Adds (time_text time) (printing O.Sink page.old out.old) (printing O.Sink page.new out.new) }
 {
     let mut text = [0; TIME_TEXT_MAX];
-    if let Ok(len) = time_into(time, &mut text) {
-        page.push(&text[..len]);
-    }
+    let len = time_into(time, &mut text).unwrap();
+    page.push(&text[..len], out);
 }
 
-#[tactic(auto, using(std::proofs::lemmas::List::append_assoc), unfolding(crate::specs::PingText::no_hello_text))]
-fn push_no_hello(page: &mut Page, node: u16, cause: Cause)
-    requires room { length page.old + 200 ≤ 65536 }
-    ensures { page.new ≡ page.old ++ no_hello_text node cause }
+fn push_no_hello<O: Sink>(page: &mut Page, node: u16, cause: Cause, out: &mut O)
+    ensures { Adds (no_hello_text node cause) (printing O.Sink page.old out.old) (printing O.Sink page.new out.new) }
 {
-    page.push(b"hello ");
-    page.push_decimal(u64::from(node));
-    page.push(b" ");
-    push_cause(page, cause);
-    page.push(b"\n");
+    page.put(
+        &[
+            Part::Text(b"hello "),
+            Part::Number(u64::from(node)),
+            Part::Text(b" "),
+        ],
+        out,
+    );
+    push_cause(page, cause, out);
+    page.push(b"\n", out);
 }
 
-#[tactic(auto, using(std::proofs::lemmas::List::append_assoc), unfolding(crate::specs::PingText::no_clock_text))]
-fn push_no_clock(page: &mut Page, node: u16, cause: Cause)
-    requires room { length page.old + 200 ≤ 65536 }
-    ensures { page.new ≡ page.old ++ no_clock_text node cause }
+fn push_no_clock<O: Sink>(page: &mut Page, node: u16, cause: Cause, out: &mut O)
+    ensures { Adds (no_clock_text node cause) (printing O.Sink page.old out.old) (printing O.Sink page.new out.new) }
 {
-    page.push(b"clock ");
-    page.push_decimal(u64::from(node));
-    page.push(b" ");
-    push_cause(page, cause);
-    page.push(b"\n");
+    page.put(
+        &[
+            Part::Text(b"clock "),
+            Part::Number(u64::from(node)),
+            Part::Text(b" "),
+        ],
+        out,
+    );
+    push_cause(page, cause, out);
+    page.push(b"\n", out);
 }
 
-#[tactic(auto, using(std::proofs::lemmas::List::append_assoc), unfolding(crate::specs::PingText::cause_text))]
-fn push_cause(page: &mut Page, cause: Cause)
-    requires room { length page.old + 30 ≤ 65536 }
-    ensures text { page.new ≡ page.old ++ cause_text cause }
-    ensures short { length page.new ≤ length page.old + 30 }
+#[tactic(auto, unfolding(crate::specs::PingText::cause_text))]
+fn push_cause<O: Sink>(page: &mut Page, cause: Cause, out: &mut O)
+    ensures { Adds (cause_text cause) (printing O.Sink page.old out.old) (printing O.Sink page.new out.new) }
 {
     match cause {
-        Cause::NoAnswer => page.push(b"no answer"),
-        Cause::Flooded => page.push(b"flooded"),
-        Cause::Refused(code) => {
-            page.push(b"refused ");
-            page.push_decimal(u64::from(code));
-        }
+        Cause::NoAnswer => page.push(b"no answer", out),
+        Cause::Flooded => page.push(b"flooded", out),
+        Cause::Refused(code) => page.put(
+            &[Part::Text(b"refused "), Part::Number(u64::from(code))],
+            out,
+        ),
     }
 }

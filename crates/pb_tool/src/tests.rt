@@ -7,7 +7,7 @@ use std::alloc::Global;
 use std::test::Fail;
 
 // Runs words over an input in memory; the reads and writes whose numbers are given fail.
-fn ran(
+pub fn ran(
     alloc: Global,
     words: &[&str],
     input: (&[u8], usize, &[u64]),
@@ -38,7 +38,7 @@ fn shows_each_form_of_line(rt: HostRuntime) -> Result<(), Fail> {
         (RING, b"1 ring 4094>1 more 0 pri 0\n", Status::Done),
         (
             b"\xBD\xA0\x01\x9F\xFE\x00\x01\x0F\xFE\x09\x01\x00\x02\x07\x08\xE8\x1F\xBD",
-            b"1 ready 4094>1 more 2 pri 1 pakctrl 4094>1 hops 0 bytes 090100020708\n",
+            b"1 ready 4094>1 more 2 pri 1 pakctrl 4094>1 hops 0 hello tran 1 router 0 metric 2 verify 1800\n",
             Status::Done,
         ),
         (
@@ -75,8 +75,8 @@ fn shows_each_form_of_line(rt: HostRuntime) -> Result<(), Fail> {
         ),
         (
             b"\xBD\xA0\x01\x9F\xFE\x00\x01\x0F\xFE\xB1\x65\xBD",
-            b"1 ready 4094>1 more 2 pri 1 pakctrl 4094>1 hops 0 bytes -\n",
-            Status::Done,
+            b"1 ready 4094>1 more 2 pri 1 pakctrl 4094>1 hops 0 malformed at 0\n",
+            Status::Format,
         ),
     ];
     for (input, text, status) in table {

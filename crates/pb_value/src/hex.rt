@@ -18,11 +18,12 @@ pub fn hex_into(bytes: &[u8], out: &mut [u8]) -> Result<usize, Full>
 {
     let mut text = [0; 2 * BYTES_MAX];
     let len = 2 * bytes.len();
-    digits_into(bytes, &mut text[..len]);
+    hex_digits_into(bytes, &mut text[..len]);
     write_text(&text[..len], out)
 }
 
-fn digits_into(bytes: &[u8], out: &mut [u8])
+/// The digits of the bytes, two upper-case digits each.
+pub fn hex_digits_into(bytes: &[u8], out: &mut [u8])
     requires { length out.old ≡ 2 * length bytes.now }
     ensures { out.new ≡ hex bytes.now }
 {

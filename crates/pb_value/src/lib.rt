@@ -13,6 +13,7 @@ mod time;
 mod value;
 
 pub use escape::{ESCAPED_MAX, escape_into};
+pub use hex::hex_digits_into;
 pub use laws::{known_times_have_their_texts, pieces_of_texts_compose};
 pub use record_values::{ValuesOf, values};
 pub use time::{TIME_TEXT_MAX, time_into};

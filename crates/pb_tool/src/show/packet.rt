@@ -1,0 +1,171 @@
+//! The lines of `show`: one for each packet and each damage.
+ghost use Rattle.std.specs.Prelude.{◌≡◌, ℕ, ◌+◌, ◌≤◌, ◌⊎◌, ◌++◌, length};
+ghost use Rattle.pb_frame.specs.Framing.{Whole, Faulty, IsContentSize};
+ghost use Rattle.pb_io.specs.Page.{Adds, printing};
+ghost use Rattle.pb_packet.specs.Packet.{packet_of, IsValidPhys};
+ghost use Rattle.pb_tool.specs.PacketText.{state_text, phys_text, proto_text, nodes_text, header_text, fault_text, content_text, is_damaged_content};
+ghost use Rattle.pb_tool.specs.ShowText.{line, why_text};
+
+use crate::show::message::push_message;
+use pb_frame::Why;
+use pb_io::{Page, Part, Sink};
+use pb_packet::{Header, LinkState, Packet, PacketFault, Phys};
+
+/// Adds the line of a good body; whether it reports damage.
+pub fn push_body<O: Sink>(page: &mut Page, piece: u64, content: &[u8], out: &mut O) -> bool
+    requires { IsContentSize (length content.now) }
+    ensures text { Adds (line (record { piece = piece; outcome = Whole content.now })) (printing O.Sink page.old out.old) (printing O.Sink page.new out.new) }
+    ensures damaged { result ≡ is_damaged_content (packet_of content.now) }
+{
+    page.put(&[Part::Number(piece), Part::Text(b" ")], out);
+    let is_damaged = push_content(page, content, out);
+    page.push(b"\n", out);
+    is_damaged
+}
+
+/// Adds the line of a piece without a good body.
+#[tactic(auto, unfolding(crate::specs::ShowText::line, crate::specs::ShowText::outcome_text))]
+pub fn push_bad<O: Sink>(page: &mut Page, piece: u64, at: u64, why: Why, out: &mut O)
+    ensures { Adds (line (record { piece = piece; outcome = Faulty at why })) (printing O.Sink page.old out.old) (printing O.Sink page.new out.new) }
+{
+    page.put(&[Part::Number(piece), Part::Text(b" ")], out);
+    page.put(
+        &[
+            Part::Text(b"bad "),
+            Part::Text(why_name(why)),
+            Part::Text(b" at "),
+            Part::Number(at),
+        ],
+        out,
+    );
+    page.push(b"\n", out);
+}
+
+fn why_name(why: Why) -> &'static [u8]
+    ensures { result.now ≡ why_text why }
+{
+    match why {
+        Why::Quote => b"quote",
+        Why::Long => b"long",
+        Why::Short => b"short",
+        Why::Signature => b"signature",
+    }
+}
+
+// Adds a content, as a packet or as what is wrong with it; whether it is damaged.
+#[tactic(auto, unfolding(crate::specs::PacketText::content_text, crate::specs::PacketText::packet_text))]
+fn push_content<O: Sink>(page: &mut Page, content: &[u8], out: &mut O) -> bool
+    requires { (length content.now ≡ 4) ⊎ (8 ≤ length content.now) }
+    ensures text { Adds (content_text (packet_of content.now)) (printing O.Sink page.old out.old) (printing O.Sink page.new out.new) }
+    ensures damaged { result ≡ is_damaged_content (packet_of content.now) }
+{
+    match pb_packet::read(content) {
+        Ok(Packet::Link(phys)) => {
+            push_phys(page, &phys, out);
+            false
+        }
+        Ok(Packet::Full(header, message)) => {
+            push_header(page, &header, out);
+            push_message(page, header.proto, message, out)
+        }
+        Err(fault) => {
+            push_fault(page, fault, out);
+            true
+        }
+    }
+}
+
+#[tactic(auto, unfolding(crate::specs::PacketText::phys_text))]
+fn push_phys<O: Sink>(page: &mut Page, phys: &Phys, out: &mut O)
+    ensures { Adds (phys_text phys.now) (printing O.Sink page.old out.old) (printing O.Sink page.new out.new) }
+{
+    page.put(
+        &[
+            Part::Text(state_name(phys.state)),
+            Part::Text(b" "),
+            Part::Number(u64::from(phys.src.get())),
+            Part::Text(b">"),
+            Part::Number(u64::from(phys.dst.get())),
+            Part::Text(b" more "),
+            Part::Number(u64::from(phys.more)),
+            Part::Text(b" pri "),
+            Part::Number(u64::from(phys.priority)),
+        ],
+        out,
+    );
+}
+
+fn state_name(state: LinkState) -> &'static [u8]
+    ensures { result.now ≡ state_text state }
+{
+    match state {
+        LinkState::OffLine => b"offline",
+        LinkState::Ring => b"ring",
+        LinkState::Ready => b"ready",
+        LinkState::Finished => b"finished",
+        LinkState::Pause => b"pause",
+    }
+}
+
+// Adds all words of a header.
+fn push_header<O: Sink>(page: &mut Page, header: &Header, out: &mut O)
+    ensures { Adds (header_text header.now) (printing O.Sink page.old out.old) (printing O.Sink page.new out.new) }
+{
+    push_phys(page, &header.phys, out);
+    push_proto(page, header.proto, out);
+    push_nodes(page, header, out);
+}
+
+#[tactic(auto, unfolding(crate::specs::PacketText::nodes_text))]
+fn push_nodes<O: Sink>(page: &mut Page, header: &Header, out: &mut O)
+    ensures { Adds (nodes_text header.now) (printing O.Sink page.old out.old) (printing O.Sink page.new out.new) }
+{
+    page.put(
+        &[
+            Part::Text(b" "),
+            Part::Number(u64::from(header.src.get())),
+            Part::Text(b">"),
+            Part::Number(u64::from(header.dst.get())),
+            Part::Text(b" hops "),
+            Part::Number(u64::from(header.hops)),
+            Part::Text(b" "),
+        ],
+        out,
+    );
+}
+
+#[tactic(auto, unfolding(crate::specs::PacketText::proto_text))]
+fn push_proto<O: Sink>(page: &mut Page, proto: u8, out: &mut O)
+    ensures { Adds (proto_text proto) (printing O.Sink page.old out.old) (printing O.Sink page.new out.new) }
+{
+    match proto {
+        0 => page.push(b" pakctrl", out),
+        1 => page.push(b" bmp5", out),
+        _ => page.put(
+            &[Part::Text(b" proto"), Part::Number(u64::from(proto))],
+            out,
+        ),
+    }
+}
+
+#[tactic(auto, unfolding(crate::specs::PacketText::fault_text))]
+fn push_fault<O: Sink>(page: &mut Page, fault: PacketFault, out: &mut O)
+    ensures { Adds (fault_text fault) (printing O.Sink page.old out.old) (printing O.Sink page.new out.new) }
+{
+    match fault {
+        PacketFault::ReservedState(state) => page.put(
+            &[
+                Part::Text(b"bad packet state "),
+                Part::Number(u64::from(state)),
+            ],
+            out,
+        ),
+        PacketFault::NullAddress { word } => page.put(
+            &[
+                Part::Text(b"bad packet address "),
+                Part::Number(u64::from(word)),
+            ],
+            out,
+        ),
+    }
+}
