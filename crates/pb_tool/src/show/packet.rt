@@ -2,7 +2,7 @@
 ghost use Rattle.std.specs.Prelude.{◌≡◌, ℕ, ◌+◌, ◌≤◌, ◌⊎◌, ◌++◌, length};
 ghost use Rattle.pb_frame.specs.Framing.{Whole, Faulty, IsContentSize};
 ghost use Rattle.pb_io.specs.Page.{Adds, printing};
-ghost use Rattle.pb_packet.specs.Packet.{packet_of, IsValidPhys};
+ghost use Rattle.pb_packet.specs.Packet.{packet_of};
 ghost use Rattle.pb_tool.specs.PacketText.{state_text, phys_text, proto_text, nodes_text, header_text, fault_text, content_text, is_damaged_content};
 ghost use Rattle.pb_tool.specs.ShowText.{line, why_text};
 
@@ -82,7 +82,6 @@ fn push_phys<O: Sink>(page: &mut Page, phys: &Phys, out: &mut O)
     page.put(
         &[
             Part::Text(state_name(phys.state)),
-            Part::Text(b" "),
             Part::Number(u64::from(phys.src.get())),
             Part::Text(b">"),
             Part::Number(u64::from(phys.dst.get())),
@@ -99,11 +98,11 @@ fn state_name(state: LinkState) -> &'static [u8]
     ensures { result.now ≡ state_text state }
 {
     match state {
-        LinkState::OffLine => b"offline",
-        LinkState::Ring => b"ring",
-        LinkState::Ready => b"ready",
-        LinkState::Finished => b"finished",
-        LinkState::Pause => b"pause",
+        LinkState::OffLine => b"offline ",
+        LinkState::Ring => b"ring ",
+        LinkState::Ready => b"ready ",
+        LinkState::Finished => b"finished ",
+        LinkState::Pause => b"pause ",
     }
 }
 
