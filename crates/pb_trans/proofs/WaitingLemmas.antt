@@ -8,7 +8,7 @@ use Rattle.pb_trans.specs.declared.asked.Limits.{Limits}
 use Rattle.pb_trans.specs.declared.asked.Step.{Step}
 use Rattle.pb_trans.specs.declared.asked.Step.TheVariants as step
 use Rattle.pb_trans.specs.Asking.{IsPleaseWait}
-use Rattle.pb_trans.specs.Waiting.{Waiting, Input, Packet, Tick, Bytes, ticks_in, bytes_in, AsksToWait, ticks_after_wait, IsDue, StandsFor, Hears, Ticks, behind_sending}
+use Rattle.pb_trans.specs.Waiting.{Waiting, Input, Packet, Tick, Bytes, ticks_in, bytes_in, AsksToWait, ticks_after_wait, IsDue, StandsFor, Hears, Ticks, after_sending}
 
 ticks-append : (a b : List Input) → ticks_in (a ++ b) ≡ ticks_in a + ticks_in b
 ticks-append [] b = omega arith
@@ -56,7 +56,7 @@ IsDue-waits asked limits inputs header message seconds due waits is = record {
 
 -- ---- what an exchange stands for
 
-pub begun : (asked : Asked) (limits : Limits) (due : ℕ) → due ≡ limits.quiets → 1 ≤ limits.sends → StandsFor (record (behind_sending asked limits 1) { due = due }) []
+pub begun : (asked : Asked) (limits : Limits) (due : ℕ) → due ≡ limits.quiets → 1 ≤ limits.sends → StandsFor (record (after_sending asked limits 1) { due = due }) []
 begun asked limits due is some = record {
   earlier = [];
   last = [];
@@ -108,7 +108,7 @@ module _ (e : Waiting) (inputs : List Input) (s : StandsFor e inputs) where
   a_tick due is = more Tick due e.heard (IsDue-more e.asked e.limits s.last e.due due Tick s.due (λ seconds waits. waits) is) (same_bytes Tick refl)
 
   -- the last tick of a sending that isn't the last one
-  again : e.due ≤ 1 → e.sent < e.limits.sends → StandsFor (behind_sending e.asked e.limits (e.sent + 1)) (inputs ++ Tick ∷ [])
+  again : e.due ≤ 1 → e.sent < e.limits.sends → StandsFor (after_sending e.asked e.limits (e.sent + 1)) (inputs ++ Tick ∷ [])
   again last_one fewer = record {
     earlier = inputs ++ Tick ∷ [];
     last = [];

@@ -93,8 +93,8 @@ pub record StandsFor (e : Waiting) (inputs : List Input) : Type 0 where
 
 -- ---- one call
 
-abbrev pub behind_sending : Asked → Limits → ℕ → Waiting
-behind_sending asked limits sent = record { asked = asked; limits = limits; sent = sent; due = limits.quiets; heard = 0 }
+abbrev pub after_sending : Asked → Limits → ℕ → Waiting
+after_sending asked limits sent = record { asked = asked; limits = limits; sent = sent; due = limits.quiets; heard = 0 }
 
 -- a packet was heard: one that asks to wait sets the ticks that are still to be heard
 pub record Hears (old : Waiting) (header : Header) (message : List ℕ) (new : Waiting) : Type 0 where
@@ -105,7 +105,7 @@ pub record Hears (old : Waiting) (header : Header) (message : List ℕ) (new : W
 -- a tick was quiet
 abbrev pub Ticks : Waiting → Step → Waiting → Type 0
 Ticks old Wait new = (1 < old.due) × (new ≡ record old { due = old.due - 1 })
-Ticks old Resend new = (old.due ≤ 1) × (old.sent < old.limits.sends) × (new ≡ behind_sending old.asked old.limits (old.sent + 1))
+Ticks old Resend new = (old.due ≤ 1) × (old.sent < old.limits.sends) × (new ≡ after_sending old.asked old.limits (old.sent + 1))
 Ticks old NoAnswer new = (old.due ≤ 1) × (old.sent ≡ old.limits.sends) × (new ≡ record old { due = 0 })
 Ticks old step new = ⊥
 

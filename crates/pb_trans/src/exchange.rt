@@ -1,7 +1,7 @@
 //! One request, from its first sending on.
 ghost use Rattle.std.specs.Prelude.{◌≡◌, ℕ, ◌+◌, ◌<◌, ◌≤◌, ◌⊎◌, List, [], ◌∷◌, ◌++◌, length, min};
 ghost use Rattle.pb_trans.specs.Asking.{Means};
-ghost use Rattle.pb_trans.specs.Waiting.{Input, Packet, Tick, Bytes, StandsFor, Hears, Ticks, Counts, behind_sending};
+ghost use Rattle.pb_trans.specs.Waiting.{Input, Packet, Tick, Bytes, StandsFor, Hears, Ticks, Counts, after_sending};
 
 use crate::asked::{Asked, FLOOD, Limits, Step, WAIT_MAX};
 use crate::judging::{meaning, seconds_to_wait};
@@ -34,7 +34,7 @@ impl Exchange {
     pub fn begin(asked: Asked, limits: Limits) -> Exchange
         requires sends { 1 ≤ limits.sends }
         requires quiets { 1 ≤ limits.quiets }
-        ensures value { result ≡ behind_sending asked limits 1 }
+        ensures value { result ≡ after_sending asked limits 1 }
         ensures stands { StandsFor result [] }
     {
         Exchange {

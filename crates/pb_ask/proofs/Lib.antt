@@ -1,0 +1,7 @@
+mod AskLemmas
+pub mod EventLemmas
+pub mod JudgeLemmas
+mod DueLemmas
+pub mod ListenLemmas
+pub mod PassLemmas
+mod RunLemmas
