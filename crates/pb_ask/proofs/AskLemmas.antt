@@ -1,6 +1,5 @@
 -- How the sendings of one request make up its outcome.
-use Rattle.std.proofs.Common.{◌≡◌, inl, inr, ⊎_elim, ◌⊎◌, ℕ, suc, ◌+◌, ◌*◌, ◌^◌, ◌<◌, ◌≤◌, List, [], ◌∷◌, ◌++◌, Option, Some, None, length, refl, sym, ap, subst, ◌∙◌, length-append, arith}
-use Rattle.std.proofs.lemmas.List.{append-nil}
+use Rattle.std.proofs.Common.{◌≡◌, inl, inr, ◌⊎◌, ℕ, suc, ◌+◌, ◌-◌, ◌*◌, ◌^◌, ◌<◌, ◌≤◌, List, [], ◌∷◌, ◌++◌, Option, Some, None, length, refl, sym, ap, subst, ◌∙◌, length-append, arith}
 use Rattle.pb_base.specs.World.{World, Sent, bytes_heard, quiet_ticks}
 use Rattle.pb_io.specs.Site.{GrowsBy}
 use Rattle.pb_io.specs.View.{Link}
@@ -9,7 +8,7 @@ use Rattle.pb_trans.specs.declared.asked.Limits.{Limits}
 use Rattle.pb_trans.specs.Waiting.{Waiting, after_sending}
 use Rattle.pb_ask.specs.declared.question.Outcome.{Outcome}
 use Rattle.pb_ask.specs.Asking.{Sending, IsVain, Resent, OutcomeOf, Asks, Breaks, Unsent, SentOnly, Hearing, Stops}
-use Rattle.pb_ask.specs.Inside.{Run, RunEnds, Listens, ListensInVain}
+use Rattle.pb_ask.specs.Inside.{Run, Listens, ListensInVain}
 use Rattle.pb_ask.specs.Listening.{Listening}
 use Rattle.pb_ask.specs.Ticking.{RoseBy}
 use Rattle.pb_ask.specs.Wanted.{Wanted}
@@ -50,6 +49,13 @@ module _ {A : Type 0} (wanted : Wanted A) (limits : Limits) (old : Listening) (w
 
   RoseBy-sending : (frame : List ℕ) (events : World) (x y z : ℕ) → y ≡ x → RoseBy (quiet_ticks events) y z → RoseBy (quiet_ticks (Sent frame ∷ events)) x z
   RoseBy-sending frame events x y z is rose = record { least = omega (arith, quiet_ticks-sent frame events, is, rose.least); most = omega (arith, quiet_ticks-sent frame events, is, rose.most) }
+
+  -- how often it was sent before
+  pub few_sent : (mid : Listening) (x : Link) (e : Waiting) → Going wanted limits old w mid x e → e.sent - 1 < limits.sends
+  few_sent mid x e g = omega (arith, g.fewer, ap (λ (v : Waiting). v.sent) g.begun)
+
+  pub sent_once : (e : Waiting) → e ≡ after_sending wanted.asked limits 1 → e.sent - 1 ≡ 0
+  sent_once e is = omega (arith, ap (λ (v : Waiting). v.sent) is)
 
   module _ (mid new : Listening) (x y z : Link) (e : Waiting) (g : Going wanted limits old w mid x e) where
     stops_with : (rest : World) (end : Listening) (v : Link) → Breaks wanted limits mid rest end → GrowsBy x.world v.world rest → RoseBy (quiet_ticks rest) x.quiets v.quiets → Stops wanted limits old w end v
@@ -138,6 +144,10 @@ module _ {A : Type 0} (wanted : Wanted A) (limits : Limits) (old : Listening) (w
 
       pub Going-more : (e_new : Waiting) → Listens wanted mid y e None new z e_new → Going wanted limits old w new z e_new
       Going-more e_new (due, s, run, (vain, is, fewer, begun)) = again due s is e_new run vain fewer begun
+
+      -- the next sending is one more
+      pub sent_more : (e_new : Waiting) → Listens wanted mid y e None new z e_new → e.sent - 1 < e_new.sent - 1
+      sent_more e_new (due, s, run, (vain, is, fewer, begun)) = omega (arith, ap (λ (v : Waiting). v.sent) begun, sent_are)
 
       pub listens_as : {r s : Option (Outcome A)} (e_new : Waiting) → r ≡ s → Listens wanted mid y e r new z e_new → Listens wanted mid y e s new z e_new
       listens_as {r} {s} e_new is h = subst (λ (o : Option (Outcome A)). Listens wanted mid y e o new z e_new) is h

@@ -1,14 +1,12 @@
 -- How many quiet ticks are still to be heard, as more is judged and heard.
-use Rattle.std.proofs.Common.{◌≡◌, inl, inr, ℕ, ◌+◌, ◌-◌, ◌<◌, List, [], ◌∷◌, ◌++◌, length, refl, sym, ap, subst, ◌∙◌, append_assoc, arith}
+use Rattle.std.proofs.Common.{◌≡◌, inl, inr, ℕ, ◌+◌, List, [], ◌∷◌, ◌++◌, refl, sym, ap, ◌∙◌, append_assoc, arith}
 use Rattle.std.proofs.lemmas.List.{append-nil}
-use Rattle.pb_base.specs.World.{World, Quiet, all_heard, bytes_heard, quiet_ticks}
-use Rattle.pb_io.specs.ChangeLog.{arrival}
+use Rattle.pb_base.specs.World.{World, Quiet, all_heard, bytes_heard}
 use Rattle.pb_frame.specs.Framing.{Verdict}
 use Rattle.pb_trans.specs.declared.asked.Asked.{Asked}
 use Rattle.pb_trans.specs.declared.asked.Limits.{Limits}
 use Rattle.pb_ask.specs.Inside.{SetsDue}
-use Rattle.pb_ask.specs.Judging.{NoneShows}
-use Rattle.pb_ask.specs.Ticking.{IsSet, BySending, AtHand, ByChunk, IsDue}
+use Rattle.pb_ask.specs.Ticking.{BySending, AtHand, ByChunk, IsDue}
 use Rattle.pb_ask.specs.Wanted.{AsksToWait}
 use Rattle.pb_ask.proofs.EventLemmas.{quiet_ticks-append, quiet_ticks-nil, quiet_ticks-one, ticks-all}
 use Rattle.pb_ask.proofs.JudgeLemmas.{NoneShows-append}

@@ -3,7 +3,6 @@ use Rattle.std.proofs.Common.{◌≡◌, ℕ, ◌+◌, List, [], ◌∷◌, ◌+
 use Rattle.std.proofs.lemmas.List.{append-nil}
 use Rattle.std.proofs.lemmas.Grind.{flat_map-append}
 use Rattle.std.proofs.lemmas.List.Elements.{filter-append}
-use Rattle.std.specs.List.{flat_map}
 use Rattle.pb_base.specs.World.{World, Begin, Sent, Heard, Quiet, Defined, Stored, Oldest, all_heard, byte_in, bytes_heard, is_quiet, quiet_ticks, sent, heard_from}
 use Rattle.pb_io.specs.ChangeLog.{arrival}
 use Rattle.pb_ask.specs.Events.{HearsOnly}

@@ -5,3 +5,4 @@ mod DueLemmas
 pub mod ListenLemmas
 pub mod PassLemmas
 mod RunLemmas
+pub mod StreamLemmas

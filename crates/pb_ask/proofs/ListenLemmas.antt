@@ -118,7 +118,7 @@ module _ {A : Type 0} (wanted : Wanted A) (limits : Limits) where
       subst (λ (w : World). HearsVain old w new) (sym is) (after_vain old mid new before (Sent wanted.frame ∷ s.heard) (hears_resent n old before mid resent) (Hears-sending mid new 0 s) vain.none)
 
   module _ (old new : Listening) (a b : Link) where
-    judged_as : (outcome : Outcome A) (resends : ℕ) (mid : Listening) (due : ℕ) (s : Sending wanted limits mid due new) (before : List Verdict) → NoneShows (EndsBy wanted) before
+    pub judged_as : (outcome : Outcome A) (resends : ℕ) (mid : Listening) (due : ℕ) (s : Sending wanted limits mid due new) (before : List Verdict) → NoneShows (EndsBy wanted) before
         → OutcomeOf wanted limits resends mid new due s outcome → JudgedAs wanted outcome (before ++ s.shown)
     judged_as (Answer answer) resends mid due s before none o = EndsWith-after (EndsBy wanted) (ended.Answer answer) before s.shown none o.0
     judged_as (Undelivered code) resends mid due s before none o = EndsWith-after (EndsBy wanted) (ended.Undelivered code) before s.shown none o.0

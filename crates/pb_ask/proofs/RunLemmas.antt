@@ -1,7 +1,7 @@
 -- How what is heard after one sending makes up its end.
-use Rattle.std.proofs.Common.{◌≡◌, ◌⊎◌, inl, inr, ⊎_elim, ℕ, zero, suc, ◌+◌, ◌-◌, ◌*◌, ◌^◌, ◌<◌, ◌≤◌, List, [], ◌∷◌, ◌++◌, Option, Some, None, length, refl, sym, ap, subst, ◌∙◌, append_assoc, length-append, min, arith}
+use Rattle.std.proofs.Common.{◌≡◌, inl, inr, ℕ, zero, suc, ◌+◌, ◌-◌, ◌*◌, ◌^◌, ◌<◌, ◌≤◌, List, [], ◌∷◌, ◌++◌, Option, Some, None, length, refl, sym, ap, subst, ◌∙◌, append_assoc, length-append, min, arith}
 use Rattle.std.proofs.lemmas.List.{append-nil}
-use Rattle.pb_base.specs.World.{World, Quiet, all_heard, bytes_heard, quiet_ticks}
+use Rattle.pb_base.specs.World.{World, all_heard, bytes_heard, quiet_ticks}
 use Rattle.pb_io.specs.ChangeLog.{arrival}
 use Rattle.pb_io.specs.Faults.{counted}
 use Rattle.pb_io.specs.Site.{GrowsBy}
@@ -14,14 +14,14 @@ use Rattle.pb_trans.specs.declared.asked.Asked.{Asked}
 use Rattle.pb_trans.specs.declared.asked.Limits.{Limits}
 use Rattle.pb_trans.specs.declared.asked.Step.{Step}
 use Rattle.pb_trans.specs.declared.asked.Step.TheVariants as step
-use Rattle.pb_trans.specs.Waiting.{Waiting, Ticks, after_sending, ticks_after_wait}
+use Rattle.pb_trans.specs.Waiting.{Waiting, Ticks, after_sending}
 use Rattle.pb_ask.specs.declared.question.Ended.{Ended}
 use Rattle.pb_ask.specs.declared.question.Ended.TheVariants as ended
 use Rattle.pb_ask.specs.declared.question.Outcome.{Outcome}
 use Rattle.pb_ask.specs.declared.question.Outcome.TheVariants.{NoAnswer, Flooded}
 use Rattle.pb_ask.specs.Asking.{Sending, IsVain, OutcomeOf}
 use Rattle.pb_ask.specs.Events.{CameWith}
-use Rattle.pb_ask.specs.Inside.{SetsDue, Heeds, Judged, Counted, Run, RunEnds, Listens, ListensInVain}
+use Rattle.pb_ask.specs.Inside.{SetsDue, Heeds, Judged, Counted, Run, Listens, ListensInVain}
 use Rattle.pb_ask.specs.Judging.{NoneShows, EndsWith, Holds, ShownBy}
 use Rattle.pb_ask.specs.Listening.{Listening}
 use Rattle.pb_ask.specs.Ticking.{RoseBy, IsDue}

@@ -1,5 +1,5 @@
 -- How one request goes.
-use Rattle.std.specs.Prelude.{◌≡◌, ◌⊎◌, ℕ, zero, suc, ◌+◌, ◌<◌, ◌≤◌, List, [], ◌∷◌, ◌++◌, length}
+use Rattle.std.specs.Prelude.{◌≡◌, ℕ, zero, suc, ◌+◌, ◌<◌, ◌≤◌, List, [], ◌∷◌, ◌++◌, length}
 use Rattle.pb_base.specs.World.{World, Sent, bytes_heard, quiet_ticks}
 use Rattle.pb_io.specs.Site.{GrowsBy}
 use Rattle.pb_io.specs.View.{Link}

@@ -1,6 +1,6 @@
 -- What is heard meanwhile, and what a crash may leave.
-use Rattle.std.specs.Prelude.{◌≡◌, ◌⊎◌, ℕ, ◌+◌, ◌<◌, ◌≤◌, List, [], ◌∷◌, ◌++◌, length, All, Some}
-use Rattle.pb_base.specs.World.{World, Event, Sent, Heard, Quiet, all_heard, sent}
+use Rattle.std.specs.Prelude.{◌≡◌, ◌⊎◌, ℕ, ◌<◌, ◌≤◌, List, [], ◌∷◌, ◌++◌, length, All, Some}
+use Rattle.pb_base.specs.World.{World, Heard, Quiet, all_heard, sent}
 use Rattle.pb_io.specs.Disk.{ReadsOnly}
 use Rattle.pb_io.specs.Site.{GrowsBy}
 use Rattle.pb_io.specs.View.{View, LeavesOnly}
@@ -22,16 +22,26 @@ CameWith heard waiting =
 
 -- ---- what a crash may leave
 
--- an image of before, and the world of before, after which this frame alone was sent
-abbrev pub Resending : List ℕ → View → World → List ℕ → Type 0
-Resending frame old w c = old.image c × ((v : World) × (more : World) × (old.link.world ≡ Some v) × (w ≡ v ++ more) × All (λ f. f ≡ frame) (sent more))
+-- this frame alone, at most so often
+pub record Repeats (frame : List ℕ) (most : ℕ) (frames : List (List ℕ)) : Type 0 where
+  pub each : All (λ f. f ≡ frame) frames
+  pub few : length frames ≤ most
 
--- calls of the link that sent this frame alone
-pub record Passes (frame : List ℕ) (old new : View) : Type 0 where
+-- an image of before, and the world of before, after which this frame alone was sent, at most so often
+pub record Resending (frame : List ℕ) (most : ℕ) (old : View) (w : World) (c : List ℕ) : Type 0 where
+  pub image : old.image c
+  pub before : World
+  pub more : World
+  pub known : old.link.world ≡ Some before
+  pub is : w ≡ before ++ more
+  pub frames : Repeats frame most (sent more)
+
+-- calls of the link that sent this frame alone, at most so often
+pub record Passes (frame : List ℕ) (most : ℕ) (old new : View) : Type 0 where
   pub reads : ReadsOnly old new
   pub disk_faults : new.faults ≡ old.faults
-  pub leaves : LeavesOnly old new (Resending frame old)
+  pub leaves : LeavesOnly old new (Resending frame most old)
   pub link_faults : old.link.faults ≤ new.link.faults
   pub events : World
   pub grows : GrowsBy old.link.world new.link.world events
-  pub frames : All (λ f. f ≡ frame) (sent events)
+  pub frames : Repeats frame most (sent events)

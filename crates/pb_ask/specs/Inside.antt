@@ -1,20 +1,20 @@
 -- How listening goes, as the code has it; no promise cites this.
-use Rattle.std.specs.Prelude.{◌≡◌, ◌⊎◌, ℕ, ◌+◌, ◌-◌, ◌^◌, ◌<◌, ◌≤◌, List, [], ◌++◌, length, min, Option, Some, None, MatchOption}
-use Rattle.pb_base.specs.World.{World, bytes_heard, quiet_ticks}
+use Rattle.std.specs.Prelude.{◌≡◌, ◌⊎◌, ℕ, ◌+◌, ◌-◌, ◌^◌, ◌<◌, ◌≤◌, List, ◌++◌, length, min, Option, Some, None, MatchOption}
+use Rattle.pb_base.specs.World.{World, quiet_ticks}
 use Rattle.pb_io.specs.Site.{GrowsBy}
 use Rattle.pb_io.specs.View.{Link}
 use Rattle.pb_frame.specs.Framing.{Verdict}
-use Rattle.pb_frame.specs.Hearing.{Hearing, Follows}
+use Rattle.pb_frame.specs.Hearing.{Follows}
 use Rattle.pb_trans.specs.declared.asked.Asked.{Asked}
 use Rattle.pb_trans.specs.declared.asked.Limits.{Limits}
 use Rattle.pb_trans.specs.declared.asked.Step.{Step}
 use Rattle.pb_trans.specs.Waiting.{Waiting, Ticks, Counts, after_sending, ticks_after_wait}
 use Rattle.pb_ask.specs.declared.question.Outcome.{Outcome}
-use Rattle.pb_ask.specs.Asking.{Sending, IsVain, OutcomeOf, Breaks}
+use Rattle.pb_ask.specs.Asking.{Sending, IsVain, OutcomeOf}
 use Rattle.pb_ask.specs.Judging.{NoneShows, EndsWith, LastShows, Holds}
 use Rattle.pb_ask.specs.Listening.{Listening}
 use Rattle.pb_ask.specs.Ticking.{RoseBy}
-use Rattle.pb_ask.specs.Wanted.{Wanted, EndsBy, AsksToWait}
+use Rattle.pb_ask.specs.Wanted.{Wanted, AsksToWait}
 
 -- ---- what judging does to an exchange
 

@@ -3,5 +3,6 @@ pub mod Events
 pub mod Inside
 pub mod Judging
 pub mod Listening
+pub mod Stream
 pub mod Ticking
 pub mod Wanted

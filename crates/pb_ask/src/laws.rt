@@ -1,6 +1,6 @@
 //! What a caller may take from a request that was asked.
 ghost use Rattle.std.specs.Prelude.{◌≡◌, ℕ, ◌≤◌, List, ◌∷◌, ◌++◌, length, drop, All};
-ghost use Rattle.pb_frame.specs.Hearing.{Hearing};
+ghost use Rattle.pb_frame.specs.Hearing.{Hearing, StandsFor};
 ghost use Rattle.pb_base.specs.World.{World, Sent, sent};
 ghost use Rattle.pb_io.specs.View.{Link};
 ghost use Rattle.pb_trans.specs.declared.asked.Limits.{Limits};
@@ -8,6 +8,7 @@ ghost use Rattle.pb_ask.specs.declared.question.Outcome.{Outcome};
 ghost use Rattle.pb_ask.specs.Asking.{Hears, Asks, Stops, Resent, JudgedAs};
 ghost use Rattle.pb_ask.specs.Judging.{NoneShows, Holds};
 ghost use Rattle.pb_ask.specs.Listening.{Listening, IsListening};
+ghost use Rattle.pb_ask.specs.Stream.{Stream, AsksOn, StopsOn};
 ghost use Rattle.pb_ask.specs.Wanted.{EndsBy};
 
 use crate::question::{Ended, Question};
@@ -29,6 +30,19 @@ pub fn law_listening<Q: Question>()
     ensures stops { (q : Q) (limits : Limits) (old new : Listening) (a b : Link) (h : Stops (Q.wanted q) limits old a new b)
         (all : Hears old (h.before ++ h.rest) new) (judged : List ℕ)
         → IsListening a judged old.inbox → IsListening b (judged ++ all.pushed) new.inbox }
+{}
+
+/// A request of a listener that stands for these bytes is one of their stream: all that its contract says is said in
+/// the bytes and the verdicts of the stream, and the listener stands for the bytes that were judged then.
+pub fn law_stream<Q: Question>()
+    ensures asks { (q : Q) (limits : Limits) (old new : Listening) (a b : Link) (outcome : Outcome Q.Answer) (judged : List ℕ) → StandsFor old.ear judged
+        → (h : Asks (Q.wanted q) limits old a outcome new b)
+        → (after : List ℕ) × StandsFor new.ear after × AsksOn (Q.wanted q) limits (record { judged = judged; waiting = old.inbox })
+            (h.before ++ (Sent (Q.wanted q).frame ∷ h.last.heard)) outcome (record { judged = after; waiting = new.inbox }) }
+    ensures stops { (q : Q) (limits : Limits) (old new : Listening) (a b : Link) (judged : List ℕ) → StandsFor old.ear judged
+        → (h : Stops (Q.wanted q) limits old a new b)
+        → (after : List ℕ) × StandsFor new.ear after × StopsOn (Q.wanted q) limits (record { judged = judged; waiting = old.inbox })
+            (h.before ++ h.rest) (record { judged = after; waiting = new.inbox }) }
 {}
 
 /// What was sent again so often is this frame, so often.

@@ -8,6 +8,6 @@ mod listener;
 mod question;
 
 pub use inbox::CHUNK;
-pub use laws::{law_judged, law_listening, law_message, law_resent};
+pub use laws::{law_judged, law_listening, law_message, law_resent, law_stream};
 pub use listener::Listener;
 pub use question::{Ended, Outcome, Question};

@@ -6,7 +6,7 @@ use Rattle.pb_ask.proofs.listener.Listener.ask.Given as goal
 abbrev pub invariant-loop-self : goal.invariant-loop-self
 invariant-loop-self g l = record {
   so_far : Going (g.Q.Question.wanted l.question) l.fn.limits l.fn.self (g.S.Disk.view l.fn.site).link l.self (g.S.Disk.view l.site).link l.exchange;
-  passes : Passes (g.Q.Question.wanted l.question).frame (g.S.Disk.view l.fn.site) (g.S.Disk.view l.site);
+  passes : Passes (g.Q.Question.wanted l.question).frame (l.exchange.sent - 1) (g.S.Disk.view l.fn.site) (g.S.Disk.view l.site);
   still : (g.S.Disk.view l.site).link.faults ≡ (g.S.Disk.view l.fn.site).link.faults;
 }
 

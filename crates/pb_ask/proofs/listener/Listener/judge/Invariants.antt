@@ -1,4 +1,4 @@
-use Rattle.std.proofs.Common.{◌≡◌, ◌+◌, ◌^◌, ◌≤◌, None, length}
+use Rattle.std.proofs.Common.{◌+◌, ◌^◌, ◌≤◌, None, length}
 use Rattle.pb_ask.specs.Wanted.{EndsBy}
 use Rattle.pb_ask.specs.Inside.{Judged}
 use Rattle.pb_ask.proofs.listener.Listener.judge.Given as goal

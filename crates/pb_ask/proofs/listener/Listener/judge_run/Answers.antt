@@ -1,4 +1,4 @@
-use Rattle.std.proofs.Common.{arith, ap, sym, subst, ◌∙◌, ◌≡◌, ◌+◌, ◌<◌, ◌≤◌, ℕ, List, length, drop, length-drop, rules, None}
+use Rattle.std.proofs.Common.{arith, ap, subst, ◌≡◌, ◌+◌, ◌<◌, ◌≤◌, ℕ, List, length, drop, length-drop, rules, None}
 use Rattle.pb_ask.specs.Inside.{Judged}
 use Rattle.pb_ask.specs.Listening.{Listening}
 use Rattle.pb_ask.specs.Wanted.{EndsBy}

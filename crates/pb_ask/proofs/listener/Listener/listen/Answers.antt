@@ -1,4 +1,4 @@
-use Rattle.std.proofs.Common.{arith, refl, sym, ap, subst, ◌∙◌, ◌≡◌, ℕ}
+use Rattle.std.proofs.Common.{refl, ap, subst, ◌∙◌, ◌≡◌, ℕ}
 use Rattle.pb_io.proofs.SinkLemmas.{OnErr-anyway}
 use Rattle.pb_trans.specs.declared.asked.Step.{Step}
 use Rattle.pb_trans.specs.Waiting.{Waiting}
@@ -33,7 +33,7 @@ returns-in_err-n-clause-breaks g c =
 pub returns-in_err-n-clause-passes : goal.returns-in_err-n-clause-passes
 returns-in_err-n-clause-passes g c = λ frame.
     let came = c.in_err-n.ensures in
-    Passes-trans frame _ _ _ (c.loop-n.invariant.passes frame) (Passes-nothing frame _ _ (g.met.S.Disk.lawful c.loop-n.site) came.disk came.disk_faults came.time came.cause.later came.world)
+    Passes-trans frame 0 0 _ _ _ (c.loop-n.invariant.passes frame) (Passes-nothing frame 0 _ _ (g.met.S.Disk.lawful c.loop-n.site) came.disk came.disk_faults came.time came.cause.later came.world)
 
 pub returns-in-Some-judge-clause-listens : goal.returns-in-Some-judge-clause-listens
 returns-in-Some-judge-clause-listens g c =
@@ -45,7 +45,7 @@ returns-in-Some-judge-clause-listens g c =
 pub returns-in-Some-judge-clause-passes : goal.returns-in-Some-judge-clause-passes
 returns-in-Some-judge-clause-passes g c = λ frame.
     let came = c.in_ok-n.ensures in
-    Passes-trans frame _ _ _ (c.loop-n.invariant.passes frame) (Passes-heard frame _ _ c.fill.new.self (g.met.S.Disk.lawful c.loop-n.site) came.disk came.disk_faults came.time came.cause.later came.world)
+    Passes-heard frame _ _ _ c.fill.new.self (c.loop-n.invariant.passes frame) (g.met.S.Disk.lawful c.loop-n.site) came.disk came.disk_faults came.time came.cause.later came.world
 
 pub returns-in-Resend-clause-listens : goal.returns-in-Resend-clause-listens
 returns-in-Resend-clause-listens g c =
@@ -59,7 +59,7 @@ returns-in-Resend-clause-listens g c =
 pub returns-in-Resend-clause-passes : goal.returns-in-Resend-clause-passes
 returns-in-Resend-clause-passes g c = λ frame.
     let came = c.in_ok-n.ensures in
-    Passes-trans frame _ _ _ (c.loop-n.invariant.passes frame) (Passes-heard frame _ _ c.fill.new.self (g.met.S.Disk.lawful c.loop-n.site) came.disk came.disk_faults came.time came.cause.later came.world)
+    Passes-heard frame _ _ _ c.fill.new.self (c.loop-n.invariant.passes frame) (g.met.S.Disk.lawful c.loop-n.site) came.disk came.disk_faults came.time came.cause.later came.world
 
 pub returns-in-NoAnswer-clause-listens : goal.returns-in-NoAnswer-clause-listens
 returns-in-NoAnswer-clause-listens g c =
@@ -73,7 +73,7 @@ returns-in-NoAnswer-clause-listens g c =
 pub returns-in-NoAnswer-clause-passes : goal.returns-in-NoAnswer-clause-passes
 returns-in-NoAnswer-clause-passes g c = λ frame.
     let came = c.in_ok-n.ensures in
-    Passes-trans frame _ _ _ (c.loop-n.invariant.passes frame) (Passes-heard frame _ _ c.fill.new.self (g.met.S.Disk.lawful c.loop-n.site) came.disk came.disk_faults came.time came.cause.later came.world)
+    Passes-heard frame _ _ _ c.fill.new.self (c.loop-n.invariant.passes frame) (g.met.S.Disk.lawful c.loop-n.site) came.disk came.disk_faults came.time came.cause.later came.world
 
 pub returns-in-Flooded-clause-listens : goal.returns-in-Flooded-clause-listens
 returns-in-Flooded-clause-listens g c =
@@ -87,7 +87,7 @@ returns-in-Flooded-clause-listens g c =
 pub returns-in-Flooded-clause-passes : goal.returns-in-Flooded-clause-passes
 returns-in-Flooded-clause-passes g c = λ frame.
     let came = c.in_ok-n.ensures in
-    Passes-trans frame _ _ _ (c.loop-n.invariant.passes frame) (Passes-heard frame _ _ c.fill.new.self (g.met.S.Disk.lawful c.loop-n.site) came.disk came.disk_faults came.time came.cause.later came.world)
+    Passes-heard frame _ _ _ c.fill.new.self (c.loop-n.invariant.passes frame) (g.met.S.Disk.lawful c.loop-n.site) came.disk came.disk_faults came.time came.cause.later came.world
 
 pub loop-n-preserved : goal.loop-n-preserved
 loop-n-preserved g c =
@@ -101,7 +101,7 @@ loop-n-preserved g c =
           c.count.result c.count.ensures c.in_default-count.not-Resend c.in_default-count.not-NoAnswer c.in_default-count.not-Flooded;
       passes = λ frame.
           let came = c.in_ok-n.ensures in
-          Passes-trans frame _ _ _ (c.loop-n.invariant.passes frame) (Passes-heard frame _ _ c.fill.new.self (g.met.S.Disk.lawful c.loop-n.site) came.disk came.disk_faults came.time came.cause.later came.world);
+          Passes-heard frame _ _ _ c.fill.new.self (c.loop-n.invariant.passes frame) (g.met.S.Disk.lawful c.loop-n.site) came.disk came.disk_faults came.time came.cause.later came.world;
       still = came.cause.kept ∙ c.loop-n.invariant.still;
     }
 
@@ -113,3 +113,6 @@ loop-n-smaller g c =
     c.judge-in-loop-n.new.exchange c.count.new.exchange
     (judged_at (EndsBy (g.Q.Question.wanted c.args.question.now)) c.self.view_is (judged_as (EndsBy (g.Q.Question.wanted c.args.question.now)) c.in_default-judge.is c.judge-in-loop-n.ensures.judged)) (c.judge-in-loop-n.ensures.all c.in_default-judge.is) c.in_ok-n.n came.count
     c.count.result c.count.ensures c.in_default-count.not-Resend c.in_default-count.not-NoAnswer c.in_default-count.not-Flooded c.judge-in-loop-n.ensures.still c.requires.quiets
+
+pub returns-in-Some-clause-passes : goal.returns-in-Some-clause-passes
+returns-in-Some-clause-passes g c = λ frame. Passes-refl frame _ (g.met.S.Disk.lawful c.args.site.now)

@@ -6,7 +6,7 @@ use Rattle.pb_ask.proofs.listener.Listener.listen.Given as goal
 abbrev pub invariant-loop-n : goal.invariant-loop-n
 invariant-loop-n g l = record {
   so_far : Ongoing (g.Q.Question.wanted l.question) l.fn.self (g.S.Disk.view l.fn.site).link l.fn.exchange l.self (g.S.Disk.view l.site).link l.exchange;
-  passes : (frame : List ℕ) → Passes frame (g.S.Disk.view l.fn.site) (g.S.Disk.view l.site);
+  passes : (frame : List ℕ) → Passes frame 0 (g.S.Disk.view l.fn.site) (g.S.Disk.view l.site);
   still : (g.S.Disk.view l.site).link.faults ≡ (g.S.Disk.view l.fn.site).link.faults;
 }
 
