@@ -4,5 +4,5 @@ pub mod JudgeLemmas
 mod DueLemmas
 pub mod ListenLemmas
 pub mod PassLemmas
-mod RunLemmas
+pub mod RunLemmas
 pub mod StreamLemmas

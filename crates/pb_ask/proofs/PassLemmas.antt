@@ -1,5 +1,5 @@
 -- What a crash may leave while a request is asked.
-use Rattle.std.proofs.Common.{◌≡◌, ◌⊎◌, inl, inr, ℕ, ◌+◌, ◌<◌, ◌≤◌, List, [], ◌∷◌, ◌++◌, All, length, refl, sym, ap, subst, ◌∙◌, append_assoc, append-nil, length-append, arith}
+use Rattle.std.proofs.Common.{◌≡◌, ◌⊎◌, inl, inr, ℕ, ◌+◌, ◌<◌, ◌≤◌, List, [], ◌∷◌, ◌++◌, refl, sym, ap, subst, ◌∙◌, append_assoc, append-nil, length-append, arith}
 use Rattle.std.proofs.lemmas.List.Elements.{All-append, All-cons, All-nil}
 use Rattle.pb_base.specs.World.{World, Sent, sent}
 use Rattle.pb_io.specs.ChangeLog.{arrival}
@@ -14,7 +14,7 @@ use Rattle.pb_ask.proofs.EventLemmas.{sent-append, HearsOnly-sent, HearsOnly-arr
 
 -- ---- frames
 
-Repeats-none : (frame : List ℕ) → Repeats frame 0 []
+pub Repeats-none : (frame : List ℕ) → Repeats frame 0 []
 Repeats-none frame = record { each = All-nil (λ (f : List ℕ). f ≡ frame); few = omega arith }
 
 Repeats-one : (frame : List ℕ) → Repeats frame 1 (frame ∷ [])

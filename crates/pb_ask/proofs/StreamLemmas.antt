@@ -1,5 +1,5 @@
 -- A request of a listener is one of the stream that it stands for.
-use Rattle.std.proofs.Common.{◌≡◌, ℕ, zero, suc, ◌<◌, List, [], ◌∷◌, ◌++◌, length, refl, sym, ap, subst, ◌∙◌, append_assoc}
+use Rattle.std.proofs.Common.{◌≡◌, ℕ, zero, suc, List, [], ◌∷◌, ◌++◌, refl, sym, ap, subst, ◌∙◌, append_assoc}
 use Rattle.std.proofs.lemmas.List.{append-nil}
 use Rattle.pb_base.specs.World.{World, Sent, bytes_heard}
 use Rattle.pb_io.specs.View.{Link}
@@ -94,13 +94,13 @@ module _ {A : Type 0} (wanted : Wanted A) (limits : Limits) where
   again : (n : ℕ) (old : Listening) (events : World) (new : Listening) (judged : List ℕ) → StandsFor old.ear judged → Resent wanted limits n old events new → Again n (stream_of judged old) events new
   again zero old events new judged stands (nothing, same) =
       subst (λ (l : Listening). Again 0 (stream_of judged old) events l) (sym same) (record {
-          judged = judged;
-          stands = stands;
-          is = (nothing, refl);
-          shown = [];
-          all = subst (λ (w : World). GoesOn (stream_of judged old) w [] (stream_of judged old)) (sym nothing) (GoesOn-nil (stream_of judged old));
-          none = tt;
-        })
+        judged = judged;
+        stands = stands;
+        is = (nothing, refl);
+        shown = [];
+        all = subst (λ (w : World). GoesOn (stream_of judged old) w [] (stream_of judged old)) (sym nothing) (GoesOn-nil (stream_of judged old));
+        none = tt;
+      })
   again (suc n) old events new judged stands (mid, before, resent, (s, vain, is)) =
       let first = again n old before mid judged stands resent in
       let end = stream_of (first.judged ++ s.pushed) new in

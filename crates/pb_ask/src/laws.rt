@@ -38,11 +38,11 @@ pub fn law_stream<Q: Question>()
     ensures asks { (q : Q) (limits : Limits) (old new : Listening) (a b : Link) (outcome : Outcome Q.Answer) (judged : List ℕ) → StandsFor old.ear judged
         → (h : Asks (Q.wanted q) limits old a outcome new b)
         → (after : List ℕ) × StandsFor new.ear after × AsksOn (Q.wanted q) limits (record { judged = judged; waiting = old.inbox })
-            (h.before ++ (Sent (Q.wanted q).frame ∷ h.last.heard)) outcome (record { judged = after; waiting = new.inbox }) }
+        (h.before ++ (Sent (Q.wanted q).frame ∷ h.last.heard)) outcome (record { judged = after; waiting = new.inbox }) }
     ensures stops { (q : Q) (limits : Limits) (old new : Listening) (a b : Link) (judged : List ℕ) → StandsFor old.ear judged
         → (h : Stops (Q.wanted q) limits old a new b)
         → (after : List ℕ) × StandsFor new.ear after × StopsOn (Q.wanted q) limits (record { judged = judged; waiting = old.inbox })
-            (h.before ++ h.rest) (record { judged = after; waiting = new.inbox }) }
+        (h.before ++ h.rest) (record { judged = after; waiting = new.inbox }) }
 {}
 
 /// What was sent again so often is this frame, so often.

@@ -45,7 +45,7 @@ impl Listener {
     }
 
     /// Asks a site: sends the request, and again where its quiet ticks are over, and listens for its answer within the
-    /// limits. What came behind the frame that ended the request before is judged first, and isn't counted. A please-wait
+    /// limits. What came after the frame that ended the request before is judged first, and isn't counted. A please-wait
     /// of the station for this request sets the quiet ticks that are still to be heard anew.
     pub fn ask<S: Site, Q: Question>(
         &mut self,

@@ -1,6 +1,4 @@
 mod CauseLemmas
-mod ExchangeLemmas
-mod JudgeLemmas
 mod LineLemmas
 mod PingLemmas
 mod PrintLemmas

@@ -1,7 +1,5 @@
 pub mod Causes
 pub mod Closing
-pub mod Exchange
-pub mod Judging
 pub mod Order
 pub mod PacketText
 pub mod Ping

@@ -3,13 +3,10 @@
 
 mod closing;
 mod commands;
-mod exchange;
-mod greeting;
 mod lines;
 mod page;
+mod ping;
 mod ping_lines;
-mod reply;
-mod request;
 mod show;
 mod status;
 mod words;

@@ -2,17 +2,16 @@
 ghost use Rattle.std.specs.Prelude.{◌≡◌, ◌≢◌, ◌≤◌, ◌+◌, ◌++◌, length};
 ghost use Rattle.pb_io.specs.Disk.{ReadsOnly};
 ghost use Rattle.pb_io.specs.Outside.{talk};
-ghost use Rattle.pb_io.specs.Site.{SendsAtMost};
 ghost use Rattle.pb_io.specs.View.{LeavesOnly};
 ghost use Rattle.pb_tool.specs.Causes.{Counts};
-ghost use Rattle.pb_tool.specs.Ping.{ping_frames};
+ghost use Rattle.pb_tool.specs.Ping.{Greets};
 ghost use Rattle.pb_value.specs.TimeText.{time_text};
 ghost use Rattle.pb_tool.specs.PingText.{hello_text, clock_text, cause_text, no_hello_text, no_clock_text, ping_text, ping_status, RanPing};
 
 use crate::Status;
 use crate::closing::close;
-use crate::greeting::{Cause, PingFault, Pinged, ping};
 use crate::page::Page;
+use crate::ping::{Cause, PingFault, Pinged, ping};
 use pb_base::{NodeId, Nsec};
 use pb_io::{Sink, Site};
 use pb_value::{TIME_TEXT_MAX, time_into};
@@ -24,7 +23,7 @@ pub fn print<S: Site, O: Sink>(me: NodeId, node: NodeId, site: &mut S, out: &mut
     ensures writes { Counts Status.WriteFault result (O.write_faults out.old) (O.write_faults out.new) }
     ensures read_fault { result ≢ Status.ReadFault }
     ensures disk_fault { result ≢ Status.DiskFault }
-    ensures leaves { LeavesOnly (S.view site.old) (S.view site.new) (SendsAtMost (ping_frames me node) (S.view site.old)) }
+    ensures leaves { LeavesOnly (S.view site.old) (S.view site.new) (Greets me node (S.view site.old)) }
     ensures disk { ReadsOnly (S.view site.old) (S.view site.new) }
     ensures disk_faults { (S.view site.new).faults ≡ (S.view site.old).faults }
 {
@@ -131,13 +130,17 @@ fn push_no_clock(page: &mut Page, node: u16, cause: Cause)
 
 #[tactic(auto, using(std::proofs::lemmas::List::append_assoc), unfolding(crate::specs::PingText::cause_text))]
 fn push_cause(page: &mut Page, cause: Cause)
-    requires room { length page.old + 30 ≤ 65536 }
+    requires room { length page.old + 40 ≤ 65536 }
     ensures text { page.new ≡ page.old ++ cause_text cause }
-    ensures short { length page.new ≤ length page.old + 30 }
+    ensures short { length page.new ≤ length page.old + 40 }
 {
     match cause {
         Cause::NoAnswer => page.push(b"no answer"),
         Cause::Flooded => page.push(b"flooded"),
+        Cause::Undelivered(code) => {
+            page.push(b"undelivered ");
+            page.push_decimal(u64::from(code));
+        }
         Cause::Refused(code) => {
             page.push(b"refused ");
             page.push_decimal(u64::from(code));

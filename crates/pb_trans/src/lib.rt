@@ -4,6 +4,8 @@
 mod asked;
 mod exchange;
 mod judging;
+mod laws;
 
 pub use asked::{Asked, FLOOD, Limits, Step, WAIT_MAX};
 pub use exchange::Exchange;
+pub use laws::law_limits;

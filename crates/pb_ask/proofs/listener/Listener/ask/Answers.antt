@@ -32,7 +32,6 @@ returns-in_err-send-clause-passes g c =
     (Passes-trans (g.Q.Question.wanted c.args.question.now).frame (c.loop-self.exchange.sent - 1) 1 _ _ _ c.loop-self.invariant.passes
     (Passes-maybe (g.Q.Question.wanted c.args.question.now).frame _ _ (g.met.S.Disk.lawful c.loop-self.site) sent.disk sent.disk_faults sent.time sent.cause.later (maybe_sent (g.Q.Question.wanted c.args.question.now) c.args.limits c.args.self.now (g.S.Disk.view c.args.site.now).link c.write-len.ensures.frame sent.world)))
 
-
 pub returns-in_err-outcome-clause-stops : goal.returns-in_err-outcome-clause-stops
 returns-in_err-outcome-clause-stops g c = OnErr-anyway _ _ (stops_listening (g.Q.Question.wanted c.args.question.now) c.args.limits c.args.self.now (g.S.Disk.view c.args.site.now).link c.loop-self.self c.listen.new.self (g.S.Disk.view c.loop-self.site).link (g.S.Disk.view c.send.new.self).link (g.S.Disk.view c.listen.new.site).link c.loop-self.exchange c.loop-self.invariant.so_far (sent_frame (g.Q.Question.wanted c.args.question.now) c.args.limits c.args.self.now (g.S.Disk.view c.args.site.now).link c.write-len.ensures.frame c.in_ok-send.ensures.world) c.in_ok-send.ensures.quiets c.in_err-outcome.ensures.breaks)
 
@@ -40,7 +39,6 @@ pub returns-in_err-outcome-clause-passes : goal.returns-in_err-outcome-clause-pa
 returns-in_err-outcome-clause-passes g c =
     let sent = c.in_ok-send.ensures in
     Passes-sending (g.Q.Question.wanted c.args.question.now).frame (c.loop-self.exchange.sent - 1) _ _ _ _ _ (few_sent (g.Q.Question.wanted c.args.question.now) c.args.limits c.args.self.now (g.S.Disk.view c.args.site.now).link c.loop-self.self (g.S.Disk.view c.loop-self.site).link c.loop-self.exchange c.loop-self.invariant.so_far) c.loop-self.invariant.passes (Passes-sent (g.Q.Question.wanted c.args.question.now).frame _ _ (g.met.S.Disk.lawful c.loop-self.site) sent.disk sent.disk_faults sent.time sent.cause.later (sent_frame (g.Q.Question.wanted c.args.question.now) c.args.limits c.args.self.now (g.S.Disk.view c.args.site.now).link c.write-len.ensures.frame c.in_ok-send.ensures.world)) (c.in_err-outcome.ensures.passes (g.Q.Question.wanted c.args.question.now).frame)
-
 
 pub returns-in-Some-clause-asks : goal.returns-in-Some-clause-asks
 returns-in-Some-clause-asks g c =
@@ -50,7 +48,6 @@ pub returns-in-Some-clause-passes : goal.returns-in-Some-clause-passes
 returns-in-Some-clause-passes g c =
     let sent = c.in_ok-send.ensures in
     Passes-sending (g.Q.Question.wanted c.args.question.now).frame (c.loop-self.exchange.sent - 1) _ _ _ _ _ (few_sent (g.Q.Question.wanted c.args.question.now) c.args.limits c.args.self.now (g.S.Disk.view c.args.site.now).link c.loop-self.self (g.S.Disk.view c.loop-self.site).link c.loop-self.exchange c.loop-self.invariant.so_far) c.loop-self.invariant.passes (Passes-sent (g.Q.Question.wanted c.args.question.now).frame _ _ (g.met.S.Disk.lawful c.loop-self.site) sent.disk sent.disk_faults sent.time sent.cause.later (sent_frame (g.Q.Question.wanted c.args.question.now) c.args.limits c.args.self.now (g.S.Disk.view c.args.site.now).link c.write-len.ensures.frame c.in_ok-send.ensures.world)) (c.in_ok-outcome.ensures.passes (g.Q.Question.wanted c.args.question.now).frame)
-
 
 pub returns-in-Some-clause-count : goal.returns-in-Some-clause-count
 returns-in-Some-clause-count g c =

@@ -1,14 +1,20 @@
 //! The frames of the requests.
 ghost use Rattle.std.specs.Prelude.{◌≡◌, ◌≤◌, ◌<◌, length, take};
-ghost use Rattle.pb_tool.specs.Ping.{request_frame, request_header, request_message};
+ghost use Rattle.pb_tool.specs.Ping.Requests.{request_frame, request_header, request_message};
 
-use crate::greeting::Request;
-use crate::reply::{CLOCK_TRAN, HELLO_TRAN, protocol};
+use crate::ping::questions::{CLOCK_TRAN, HELLO_TRAN};
 use pb_base::{NodeId, Nsec};
 use pb_bmp5::Bmp5;
 use pb_ctrl::Ctrl;
 use pb_frame::frame_into;
-use pb_packet::{Header, LinkState, Packet, Phys};
+use pb_packet::{Header, LinkState, PROTO_BMP5, PROTO_PAKCTRL, Packet, Phys};
+
+/// What is asked.
+#[derive(Clone, Copy, Debug, PartialEq, Eq)]
+pub enum Request {
+    Hello,
+    Clock,
+}
 
 /// Writes the frame of a request to the front of `out`, and answers how many bytes it has.
 pub fn write_request(request: Request, me: NodeId, node: NodeId, out: &mut [u8]) -> usize
@@ -56,9 +62,9 @@ fn write_message(request: Request, out: &mut [u8]) -> usize
 fn header(request: Request, me: NodeId, node: NodeId) -> Header
     ensures { result ≡ request_header request me node }
 {
-    let more = match request {
-        Request::Hello => 2,
-        Request::Clock => 1,
+    let (more, proto) = match request {
+        Request::Hello => (2, PROTO_PAKCTRL),
+        Request::Clock => (1, PROTO_BMP5),
     };
     Header {
         phys: Phys {
@@ -68,7 +74,7 @@ fn header(request: Request, me: NodeId, node: NodeId) -> Header
             priority: 1,
             src: me,
         },
-        proto: protocol(request),
+        proto,
         dst: node,
         hops: 0,
         src: me,
