@@ -1,6 +1,12 @@
 //! The headers of packets.
 use pb_base::NodeId;
 
+/// The protocol of PakCtrl messages.
+pub const PROTO_PAKCTRL: u8 = 0;
+
+/// The protocol of BMP5 messages.
+pub const PROTO_BMP5: u8 = 1;
+
 /// What a packet says of the link that it goes over (PakBus).
 #[derive(Clone, Copy, Debug, PartialEq, Eq)]
 pub enum LinkState {
@@ -27,7 +33,7 @@ pub struct Phys {
 #[derive(Clone, Copy, Debug, PartialEq, Eq)]
 pub struct Header {
     pub phys: Phys,
-    /// The protocol of the message, 0 to 15: 0 is PakCtrl, 1 is BMP5.
+    /// The protocol of the message, 0 to 15, as `PROTO_PAKCTRL` or `PROTO_BMP5`.
     pub proto: u8,
     pub dst: NodeId,
     /// How many routers the packet has passed, 0 to 15.

@@ -6,7 +6,7 @@ mod laws;
 mod reading;
 mod writing;
 
-pub use headers::{Header, LinkState, Packet, PacketFault, Phys};
+pub use headers::{Header, LinkState, PROTO_BMP5, PROTO_PAKCTRL, Packet, PacketFault, Phys};
 pub use laws::written_is_read;
 pub use reading::read;
 pub use writing::write;

@@ -1,7 +1,5 @@
 mod CauseLemmas
 mod ClosingLemmas
-mod ExchangeLemmas
-mod JudgeLemmas
 mod LineLemmas
 mod PingLemmas
 mod PrintLemmas

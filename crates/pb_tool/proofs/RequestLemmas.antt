@@ -6,8 +6,8 @@ use Rattle.pb_base.specs.Put.{IsWritten}
 use Rattle.pb_frame.specs.Framing.{frame}
 use Rattle.pb_packet.specs.Packet.{full, packet_bytes}
 use Rattle.pb_packet.specs.declared.headers.Header.{Header}
-use Rattle.pb_tool.specs.declared.greeting.Request.{Request}
-use Rattle.pb_tool.specs.Ping.{request_header, request_message, request_frame}
+use Rattle.pb_tool.specs.declared.ping.request.Request.{Request}
+use Rattle.pb_tool.specs.Ping.Requests.{request_header, request_message, request_frame}
 
 at_ok : {T E : Type 0} (r : Result T E) (x : T) (P : T → Type 0) → r ≡ Ok x → IfOk r P → P x
 at_ok r x P is h = subst (λ (s : Result _ _). IfOk s P) is h

@@ -1,8 +1,6 @@
 pub mod Causes
 pub mod Closing
-pub mod Exchange
 pub mod Inside
-pub mod Judging
 pub mod MessageText
 pub mod Order
 pub mod PacketText

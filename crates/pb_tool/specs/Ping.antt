@@ -1,190 +1,112 @@
--- What `ping` sends, what it takes for an answer, and what its answers mean.
-use Rattle.std.specs.Prelude.{◌≡◌, ◌≢◌, ◌⊎◌, ℕ, ◌≤◌, List, [], ◌∷◌, ◌++◌, length, Option, Result, Ok, Err}
-use Rattle.std.specs.List.{flat_map}
-use Rattle.pb_base.specs.World.{World, Event, Sent, Heard, Quiet, sent}
+-- What the answers of `ping` mean.
+pub mod Requests
+use Rattle.std.specs.Prelude.{◌≡◌, ◌≢◌, ◌⊎◌, ℕ, zero, suc, List, ◌++◌, Option, Some, Result, Ok, Err}
+use Rattle.pb_base.specs.World.{World, quiet_ticks, sent}
+use Rattle.pb_base.specs.declared.nsec.Nsec.{Nsec}
 use Rattle.pb_io.specs.Site.{GrowsBy}
-use Rattle.pb_frame.specs.Framing.{frame, Verdict, Outcome, Whole, Faulty, verdicts}
-use Rattle.pb_packet.specs.Packet.{full, packet_bytes, PacketBytes}
-use Rattle.pb_packet.specs.declared.headers.LinkState.TheVariants.{Ready}
-use Rattle.pb_packet.specs.declared.headers.Header.{Header}
-use Rattle.pb_ctrl.specs.Message.{Hello, HelloReply, message_bytes as ctrl_bytes, MessageReads as CtrlReads}
-use Rattle.pb_bmp5.specs.Message.{Clock, ClockReply, message_bytes as bmp5_bytes, MessageReads as Bmp5Reads, no_time}
-use Rattle.pb_tool.specs.declared.greeting.Request.{Request}
-use Rattle.pb_tool.specs.declared.greeting.Request.TheVariants as request
-use Rattle.pb_tool.specs.declared.greeting.Reply.{Reply}
-use Rattle.pb_tool.specs.declared.greeting.Reply.TheVariants as reply
-use Rattle.pb_tool.specs.declared.greeting.Pinged.{Pinged}
-use Rattle.pb_tool.specs.declared.greeting.Cause.{Cause}
-use Rattle.pb_tool.specs.declared.greeting.Cause.TheVariants.{NoAnswer, Flooded, Refused}
-use Rattle.pb_tool.specs.declared.greeting.PingFault.{PingFault}
-use Rattle.pb_tool.specs.declared.greeting.PingFault.TheVariants as fault
+use Rattle.pb_io.specs.View.{View, Link}
+use Rattle.pb_ask.specs.Events.{Repeats}
+use Rattle.pb_ask.specs.Stream.{Stream, no_stream, AsksOn, StopsOn}
+use Rattle.pb_ask.specs.Ticking.{RoseBy}
+use Rattle.pb_ask.specs.declared.question.Outcome.{Outcome}
+use Rattle.pb_ask.specs.declared.question.Outcome.TheVariants as outcome
+use Rattle.pb_tool.specs.declared.ping.answer.Pinged.{Pinged}
+use Rattle.pb_tool.specs.declared.ping.answer.Cause.{Cause}
+use Rattle.pb_tool.specs.declared.ping.answer.Cause.TheVariants.{NoAnswer, Flooded, Undelivered, Refused}
+use Rattle.pb_tool.specs.declared.ping.answer.PingFault.{PingFault}
+use Rattle.pb_tool.specs.declared.ping.answer.PingFault.TheVariants as fault
+use Rattle.pb_tool.specs.declared.ping.questions.Greeting.{Greeting}
+use Rattle.pb_tool.specs.declared.ping.questions.Reading.{Reading}
+use Rattle.pb_tool.specs.Ping.Requests.{limits, hello, clock}
 
--- ---- what is sent
+-- the answer, or why there is none
+abbrev pub answered : {A : Type 0} → Outcome A → Result A Cause
+answered (outcome.Answer answer) = Ok answer
+answered outcome.NoAnswer = Err NoAnswer
+answered outcome.Flooded = Err Flooded
+answered (outcome.Undelivered code) = Err (Undelivered code)
 
--- PakCtrl, or BMP5
-abbrev pub proto_of : Request → ℕ
-proto_of request.Hello = 0
-proto_of request.Clock = 1
+-- The hello was asked over a link of which nothing was heard in this call, and had this outcome; the stream is that of
+-- the bytes heard in this call.
+abbrev pub AsksHello : (me node : ℕ) → World → Outcome Greeting → Stream → Type 0
+AsksHello me node events o new = AsksOn (hello me node) limits no_stream events o new
 
--- whether more is to come: neutral in PakCtrl, expected behind a BMP5 command
-abbrev pub more_of : Request → ℕ
-more_of request.Hello = 2
-more_of request.Clock = 1
-
-abbrev pub request_header : Request → ℕ → ℕ → Header
-request_header request me node =
-    record { phys = record { state = Ready; dst = node; more = more_of request; priority = 1; src = me }; proto = proto_of request; dst = node; hops = 0; src = me }
-
-abbrev pub request_message : Request → List ℕ
-request_message request.Hello = ctrl_bytes (Hello 1 0 2 1800)
-request_message request.Clock = bmp5_bytes (Clock 2 0 no_time)
-
-unfoldable pub request_frame : Request → ℕ → ℕ → List ℕ
-request_frame request me node = frame (packet_bytes (full (request_header request me node) (request_message request)))
-
--- all that a ping sends
-abbrev pub ping_frames : ℕ → ℕ → List (List ℕ)
-ping_frames me node = request_frame request.Hello me node ∷ request_frame request.Clock me node ∷ []
-
--- ---- what answers
-
--- the content is a packet with this message, of this protocol, from the node to me
-pub record IsFrom (me node proto : ℕ) (content message : List ℕ) : Type 0 where
-  pub header : Header
-  pub packet : PacketBytes (full header message) content
-  pub proto_is : header.proto ≡ proto
-  pub to : header.dst ≡ me
-  pub from : header.src ≡ node
-
--- the message is this reply to the request: its transaction and its type
-abbrev pub IsAnswer : Request → Reply → List ℕ → Type 0
-IsAnswer request.Hello (reply.Hello router metric verify) message = CtrlReads (HelloReply 1 router metric verify) message
-IsAnswer request.Hello (reply.Clock resp time) message = ⊥
-IsAnswer request.Clock (reply.Clock resp time) message = Bmp5Reads (ClockReply 2 resp time) message
-IsAnswer request.Clock (reply.Hello router metric verify) message = ⊥
-
--- the content of a good body is this reply to the request
-abbrev pub IsReply : Request → ℕ → ℕ → Reply → List ℕ → Type 0
-IsReply request me node answer content = (message : List ℕ) × IsFrom me node (proto_of request) content message × IsAnswer request answer message
-
-abbrev pub OutcomeFits : Request → ℕ → ℕ → Reply → Outcome → Type 0
-OutcomeFits request me node answer (Whole content) = IsReply request me node answer content
-OutcomeFits request me node answer (Faulty at why) = ⊥
-
--- the verdict is that of a good frame with the reply
-abbrev pub Fits : Request → ℕ → ℕ → Reply → Verdict → Type 0
-Fits request me node answer v = OutcomeFits request me node answer v.outcome
-
--- no verdict is that of a reply to the request
-abbrev pub NoneFits : Request → ℕ → ℕ → List Verdict → Type 0
-NoneFits request me node [] = Unit {0}
-NoneFits request me node (v ∷ vs) = ((answer : Reply) → Fits request me node answer v → ⊥) × NoneFits request me node vs
-
--- ---- what is heard
-
-abbrev pub bytes_in : Event → List ℕ
-bytes_in (Heard byte) = byte ∷ []
-bytes_in event = []
-
--- the bytes that these events heard
-unfoldable pub bytes_heard : World → List ℕ
-bytes_heard events = flat_map bytes_in events
-
-abbrev pub ticks_in : Event → List ℕ
-ticks_in Quiet = 0 ∷ []
-ticks_in event = []
-
--- how many of them are quiet ticks
-unfoldable pub quiet_ticks : World → ℕ
-quiet_ticks events = length (flat_map ticks_in events)
-
--- ---- what a ping's answer means
-
--- The hello was sent, and these events came; the clock was sent, and these came.
-pub record HearsHello (me node : ℕ) (events heard : World) : Type 0 where
-  pub is : events ≡ Sent (request_frame request.Hello me node) ∷ heard
-  pub no_more_sent : sent heard ≡ []
-
-pub record HearsClock (me node : ℕ) (events first second : World) : Type 0 where
-  pub is : events ≡ (Sent (request_frame request.Hello me node) ∷ first) ++ (Sent (request_frame request.Clock me node) ∷ second)
-  pub none_between : sent first ≡ []
-  pub no_more_sent : sent second ≡ []
-
--- Of the good frames heard, the first that fits the hello, and those behind it.
-pub record HelloAnswered (me node : ℕ) (router metric verify : ℕ) (all behind : List Verdict) : Type 0 where
-  pub before : List Verdict
-  pub answer : Verdict
-  pub split : all ≡ before ++ answer ∷ behind
-  pub none_before : NoneFits request.Hello me node before
-  pub fits : Fits request.Hello me node (reply.Hello router metric verify) answer
-
--- the hello was answered within these events
-abbrev pub IsAnswered : (me node router metric verify : ℕ) → World → Type 0
-IsAnswered me node router metric verify heard = (behind : List Verdict) × HelloAnswered me node router metric verify (verdicts (bytes_heard heard)) behind
-
--- the first behind it that fits the clock
-pub record ClockAnswered (me node : ℕ) (answer : Reply) (behind : List Verdict) : Type 0 where
-  pub before : List Verdict
-  pub frame : Verdict
-  pub after : List Verdict
-  pub split : behind ≡ before ++ frame ∷ after
-  pub none_before : NoneFits request.Clock me node before
-  pub fits : Fits request.Clock me node answer frame
-
--- within the limits of one request: five quiet ticks, or 65,536 bytes
-abbrev pub Exhausts : Cause → World → Type 0
-Exhausts NoAnswer heard = 5 ≤ quiet_ticks heard
-Exhausts Flooded heard = 65536 ≤ length (bytes_heard heard)
-Exhausts (Refused c) heard = ⊥
-
--- why there is no time: no frame that fits, within the limits, or one with a response code that isn't 0
-abbrev pub NoClock : ℕ → ℕ → Cause → World → List Verdict → Type 0
-NoClock me node (Refused c) heard behind = (c ≢ 0) × ((time : _) × ClockAnswered me node (reply.Clock c time) behind)
-NoClock me node cause heard behind = NoneFits request.Clock me node behind × Exhausts cause heard
-
--- The hello was answered, and then the clock was asked. Behind the answer stand the frames of all events, also those
--- that came before the clock was asked.
-pub record AsksClock (me node router metric verify : ℕ) (events : World) : Type 0 where
+-- The hello was answered so, and then the clock was asked, and had this outcome.
+pub record AsksClock (me node : ℕ) (greeting : Greeting) (events : World) (o : Outcome Reading) : Type 0 where
   pub first : World
   pub second : World
-  pub behind : List Verdict
-  pub hears : HearsClock me node events first second
-  pub in_time : IsAnswered me node router metric verify first
-  pub answered : HelloAnswered me node router metric verify (verdicts (bytes_heard events)) behind
+  pub mid : Stream
+  pub last : Stream
+  pub is : events ≡ first ++ second
+  pub greeted : AsksHello me node first (outcome.Answer greeting) mid
+  pub asks : AsksOn (clock me node) limits mid second o last
 
--- the hello was sent, and nothing that fits was heard
+-- the hello has no answer, for this cause
 pub record HelloFails (me node : ℕ) (cause : Cause) (events : World) : Type 0 where
-  pub heard : World
-  pub hears : HearsHello me node events heard
-  pub none : NoneFits request.Hello me node (verdicts (bytes_heard events))
-  pub limit : Exhausts cause heard
+  pub outcome : Outcome Greeting
+  pub last : Stream
+  pub why : answered outcome ≡ Err cause
+  pub asks : AsksHello me node events outcome last
 
--- A call of the link failed at the hello: it was sent once or not at all.
+-- there is no time: no answer, for this cause, or one with a response code that isn't 0
+abbrev pub NoClock : (me node : ℕ) → Cause → Greeting → World → Type 0
+NoClock me node (Refused code) greeting events = (code ≢ 0) × ((time : Nsec) × AsksClock me node greeting events (outcome.Answer (record { resp = code; time = time })))
+NoClock me node cause greeting events = (o : Outcome Reading) × (answered o ≡ Err cause) × AsksClock me node greeting events o
+
+-- a call of the link failed at the hello
 abbrev pub StopsAtHello : (me node : ℕ) → World → Type 0
-StopsAtHello me node events = (rest : List (List ℕ)) × (sent events ++ rest ≡ request_frame request.Hello me node ∷ [])
+StopsAtHello me node events = (last : Stream) × StopsOn (hello me node) limits no_stream events last
 
--- It failed at the clock, behind an answered hello: the clock was sent once or not at all.
+-- or at the clock, after an answered hello
 pub record StopsAtClock (me node : ℕ) (events : World) : Type 0 where
   pub first : World
-  pub later : World
-  pub router : ℕ
-  pub metric : ℕ
-  pub verify : ℕ
-  pub rest : List (List ℕ)
-  pub is : events ≡ (Sent (request_frame request.Hello me node) ∷ first) ++ later
-  pub none_between : sent first ≡ []
-  pub in_time : IsAnswered me node router metric verify first
-  pub frames_sent : sent later ++ rest ≡ request_frame request.Clock me node ∷ []
+  pub second : World
+  pub greeting : Greeting
+  pub mid : Stream
+  pub last : Stream
+  pub is : events ≡ first ++ second
+  pub greeted : AsksHello me node first (outcome.Answer greeting) mid
+  pub stops : StopsOn (clock me node) limits mid second last
 
 -- the events of the call, and its answer
 abbrev pub Pings : ℕ → ℕ → World → Result Pinged PingFault → Type 0
-Pings me node events (Ok p) = (asks : AsksClock me node p.router p.metric p.verify events) × ClockAnswered me node (reply.Clock 0 p.time) asks.behind
+Pings me node events (Ok p) = AsksClock me node (record { router = p.router; metric = p.metric; verify = p.verify }) events (outcome.Answer (record { resp = 0; time = p.time }))
 Pings me node events (Err (fault.Hello cause)) = HelloFails me node cause events
-Pings me node events (Err (fault.Clock cause router metric verify)) = (asks : AsksClock me node router metric verify events) × NoClock me node cause asks.second asks.behind
+Pings me node events (Err (fault.Clock cause router metric verify)) = NoClock me node cause (record { router = router; metric = metric; verify = verify }) events
 Pings me node events (Err fault.LinkFault) = StopsAtHello me node events ⊎ StopsAtClock me node events
 
--- the world grew by these events, which mean this answer
-pub record Pinging (me node : ℕ) (world_old world_new : Option World) (answer : Result Pinged PingFault) : Type 0 where
+-- The world grew by these events, which mean this answer; the count of quiet ticks rose by theirs, also where the world
+-- isn't known.
+pub record Pinging (me node : ℕ) (link_old link_new : Link) (answer : Result Pinged PingFault) : Type 0 where
   pub events : World
-  pub grows : GrowsBy world_old world_new events
+  pub grows : GrowsBy link_old.world link_new.world events
+  pub quiets : RoseBy (quiet_ticks events) link_old.quiets link_new.quiets
   pub pings : Pings me node events answer
+
+-- ---- what a crash may leave meanwhile
+
+-- an image of before, and the world of before, after which the hello was sent, three times at most, and then the clock
+-- command, three times at most
+pub record Greets (me node : ℕ) (old : View) (w : World) (c : List ℕ) : Type 0 where
+  pub image : old.image c
+  pub before : World
+  pub more : World
+  pub known : old.link.world ≡ Some before
+  pub is : w ≡ before ++ more
+  pub hellos : List (List ℕ)
+  pub clocks : List (List ℕ)
+  pub frames : sent more ≡ hellos ++ clocks
+  pub hellos_are : Repeats (hello me node).frame 3 hellos
+  pub clocks_are : Repeats (clock me node).frame 3 clocks
+
+-- ---- how the code puts its answer together
+
+abbrev pub read_time : Greeting → ℕ → Nsec → Result Pinged PingFault
+read_time g zero time = Ok (record { router = g.router; metric = g.metric; verify = g.verify; time = time })
+read_time g (suc code) time = Err (fault.Clock (Refused (suc code)) g.router g.metric g.verify)
+
+abbrev pub concluded : Greeting → Outcome Reading → Result Pinged PingFault
+concluded g (outcome.Answer r) = read_time g r.resp r.time
+concluded g outcome.NoAnswer = Err (fault.Clock NoAnswer g.router g.metric g.verify)
+concluded g outcome.Flooded = Err (fault.Clock Flooded g.router g.metric g.verify)
+concluded g (outcome.Undelivered code) = Err (fault.Clock (Undelivered code) g.router g.metric g.verify)

@@ -4,11 +4,11 @@ use Rattle.pb_base.specs.declared.nsec.Nsec.{Nsec}
 use Rattle.pb_io.specs.Faults.{Rose}
 use Rattle.pb_io.specs.Outside.{Talk}
 use Rattle.pb_io.specs.Page.{joined}
-use Rattle.pb_tool.specs.declared.greeting.Pinged.{Pinged}
-use Rattle.pb_tool.specs.declared.greeting.Cause.{Cause}
-use Rattle.pb_tool.specs.declared.greeting.Cause.TheVariants.{NoAnswer, Flooded, Refused}
-use Rattle.pb_tool.specs.declared.greeting.PingFault.{PingFault}
-use Rattle.pb_tool.specs.declared.greeting.PingFault.TheVariants as fault
+use Rattle.pb_tool.specs.declared.ping.answer.Pinged.{Pinged}
+use Rattle.pb_tool.specs.declared.ping.answer.Cause.{Cause}
+use Rattle.pb_tool.specs.declared.ping.answer.Cause.TheVariants.{NoAnswer, Flooded, Undelivered, Refused}
+use Rattle.pb_tool.specs.declared.ping.answer.PingFault.{PingFault}
+use Rattle.pb_tool.specs.declared.ping.answer.PingFault.TheVariants as fault
 use Rattle.pb_tool.specs.declared.status.Status.{Status}
 use Rattle.pb_tool.specs.declared.status.Status.TheVariants as status
 use Rattle.pb_tool.specs.Ping.{Pinging}
@@ -27,6 +27,7 @@ clock_text node time = joined (codes "clock " ∷ decimal node ∷ codes " " ∷
 unfoldable pub cause_text : Cause → List ℕ
 cause_text NoAnswer = codes "no answer"
 cause_text Flooded = codes "flooded"
+cause_text (Undelivered c) = joined (codes "undelivered " ∷ decimal c ∷ [])
 cause_text (Refused c) = joined (codes "refused " ∷ decimal c ∷ [])
 
 -- `hello NODE CAUSE`
@@ -56,6 +57,6 @@ ping_status (Err (fault.Clock cause router metric verify)) = status.Incomplete
 -- of it where a write failed. A link fault is said only where one came in this call.
 pub record RanPing (me node : ℕ) (result : Status) (before after : Talk) : Type 0 where
   pub answer : Result Pinged PingFault
-  pub pinging : Pinging me node before.site.link.world after.site.link.world answer
+  pub pinging : Pinging me node before.site.link after.site.link answer
   pub printed : Closes (ping_status answer) result (ping_text node answer) before.out.written after.out.written
   pub fault : answer ≡ Err fault.LinkFault → Rose before.site.link.faults after.site.link.faults

@@ -7,7 +7,7 @@ use Rattle.pb_io.specs.Outside.{Outside}
 use Rattle.pb_io.specs.View.{LeavesOnly}
 use Rattle.pb_io.specs.declared.disk.Disk as disk
 use Rattle.pb_tool.specs.Order.{Order, Show, Ping}
-use Rattle.pb_tool.specs.Ping.{ping_frames}
+use Rattle.pb_tool.specs.Ping.{Greets}
 use Rattle.pb_tool.specs.declared.status.Status.{Status}
 
 pub record Uses : Type 0 where
@@ -30,8 +30,8 @@ pub record Leaves {S I : Type 0} (d : disk.Ghosts S) (u : Uses) (site_old : S) (
   pub link : OnFalse u.link ((d.view site_new).link ≡ (d.view site_old).link)
 
 -- What a crash at some moment of the command may leave, with the world of that moment. A command that writes no file
--- leaves an image at entry, and the world at entry with a prefix of the frames that it sends.
+-- leaves an image at entry, and the world at entry with a prefix of the frames that it sends, some of them again.
 abbrev pub MayLeave : Option Order → Status → Outside → Outside → Type 0
 MayLeave None result before after = LeavesOnly before.site after.site (SendsAtMost [] before.site)
 MayLeave (Some Show) result before after = LeavesOnly before.site after.site (SendsAtMost [] before.site)
-MayLeave (Some (Ping me node)) result before after = LeavesOnly before.site after.site (SendsAtMost (ping_frames me node) before.site)
+MayLeave (Some (Ping me node)) result before after = LeavesOnly before.site after.site (Greets me node before.site)

@@ -9,7 +9,7 @@ ghost use Rattle.pb_tool.specs.Words.{Said};
 
 use crate::closing::close;
 use crate::words::{self, Command};
-use crate::{Status, ping_lines, show};
+use crate::{Status, ping, show};
 use pb_io::{Sink, Site, Source};
 use std::alloc::Global;
 
@@ -69,6 +69,6 @@ fn perform<S: Site, I: Source, O: Sink>(
 {
     match command {
         Command::Show => show::print(input, out),
-        Command::Ping { me, node } => ping_lines::print(me, node, site, out),
+        Command::Ping { me, node } => ping::print(me, node, site, out),
     }
 }

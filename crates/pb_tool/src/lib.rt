@@ -3,11 +3,7 @@
 
 mod closing;
 mod commands;
-mod exchange;
-mod greeting;
-mod ping_lines;
-mod reply;
-mod request;
+mod ping;
 mod show;
 mod status;
 mod words;

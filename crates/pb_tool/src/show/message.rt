@@ -9,12 +9,7 @@ use crate::show::ctrl::push_ctrl;
 use crate::show::value::{Shown, push_bytes, push_hex, push_shown};
 use pb_base::MessageFault;
 use pb_io::{Page, Part, Sink};
-
-/// The number of the PakCtrl protocol.
-const PAKCTRL: u8 = 0;
-
-/// The number of the BMP5 protocol.
-const BMP5: u8 = 1;
+use pb_packet::{PROTO_BMP5, PROTO_PAKCTRL};
 
 /// A key and its value.
 #[derive(Clone, Copy)]
@@ -106,8 +101,8 @@ pub fn push_message<O: Sink>(page: &mut Page, proto: u8, message: &[u8], out: &m
     ensures damaged { result ≡ is_damaged_message proto message.now }
 {
     match proto {
-        PAKCTRL => push_ctrl(page, message, out),
-        BMP5 => push_bmp5(page, message, out),
+        PROTO_PAKCTRL => push_ctrl(page, message, out),
+        PROTO_BMP5 => push_bmp5(page, message, out),
         _ => {
             push_plain(page, message, out);
             false

@@ -9,7 +9,7 @@ ghost use Rattle.pb_tool.specs.ShowText.{line, why_text};
 use crate::show::message::push_message;
 use pb_frame::Why;
 use pb_io::{Page, Part, Sink};
-use pb_packet::{Header, LinkState, Packet, PacketFault, Phys};
+use pb_packet::{Header, LinkState, PROTO_BMP5, PROTO_PAKCTRL, Packet, PacketFault, Phys};
 
 /// Adds the line of a good body; whether it reports damage.
 pub fn push_body<O: Sink>(page: &mut Page, piece: u64, content: &[u8], out: &mut O) -> bool
@@ -138,8 +138,8 @@ fn push_proto<O: Sink>(page: &mut Page, proto: u8, out: &mut O)
     ensures { Adds (proto_text proto) (printing O.Sink page.old out.old) (printing O.Sink page.new out.new) }
 {
     match proto {
-        0 => page.push(b" pakctrl", out),
-        1 => page.push(b" bmp5", out),
+        PROTO_PAKCTRL => page.push(b" pakctrl", out),
+        PROTO_BMP5 => page.push(b" bmp5", out),
         _ => page.put(
             &[Part::Text(b" proto"), Part::Number(u64::from(proto))],
             out,

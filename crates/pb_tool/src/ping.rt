@@ -1,0 +1,12 @@
+//! `ping`: a hello to a node, and then a question for its time.
+
+mod answer;
+mod greeting;
+mod lines;
+mod questions;
+mod request;
+
+pub use lines::print;
+
+#[cfg(test)]
+mod tests;
