@@ -1,6 +1,7 @@
 //! Reads a message: its type says which.
 ghost use Rattle.std.specs.Prelude.{◌≡◌, ℕ, ◌<◌, ◌≤◌, ◌↔◌, length, slice_index, Ok, Err, IfOk, IfErr};
 ghost use Rattle.pb_base.specs.Fields.{whole};
+ghost use Rattle.pb_layout.specs.Breaking.{BreaksAt};
 ghost use Rattle.pb_layout.specs.Reading.{reading, Gives};
 ghost use Rattle.pb_ctrl.specs.Message.{Message, told, layout, IsType, MessageReads};
 
@@ -26,6 +27,8 @@ pub fn read(message: &[u8]) -> Result<Ctrl, MessageFault>
     ensures short { length message.now < 2 → result ≡ Err (MessageFault.Malformed (length message.now)) }
     // A type is unknown where there are two bytes and the first is no type.
     ensures unknown { (n : ℕ) → (result ≡ Err (MessageFault.UnknownType n)) ↔ ((2 ≤ length message.now) × (slice_index message.now 0 ≡ n) × (IsType n → ⊥)) }
+    // A malformed message breaks off at the place: the keys before it read, and no value of the next one stands there.
+    ensures malformed { (at : ℕ) → result ≡ Err (MessageFault.Malformed at) → BreaksAt layout 0 message.now at }
     // Every refusal is that of the first key that can't be read.
     ensures refused { IfErr result (λ fault. reading layout (whole message.now) ≡ Err fault) }
 {

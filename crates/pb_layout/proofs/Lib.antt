@@ -6,3 +6,4 @@ pub mod KeyLaws
 pub mod LayoutLaws
 pub mod PieceLaws
 pub mod FaultLaws
+pub mod BreakLaws

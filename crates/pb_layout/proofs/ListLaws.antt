@@ -70,7 +70,7 @@ settings_ok : (b : Bool) (most : ℕ) (u v : Unread) → cond b (Ok u) (and_then
 settings_ok true most u v e = inl refl
 settings_ok false most u v e = inr (and_ok (setting_at u) (settings_at most) v e)
 
-setting-takes : (u w : Unread) → IsBytes u.rest → setting_at u ≡ Ok w → (s : Setting) × IsSetting s × Takes u (setting_bytes s) w
+pub setting-takes : (u w : Unread) → IsBytes u.rest → setting_at u ≡ Ok w → (s : Setting) × IsSetting s × Takes u (setting_bytes s) w
 setting-takes u w fits e =
     let behind_it : List ℕ × Unread → Result Unread MessageFault = λ content. Ok content.1 in
     let content_of : ℕ × Unread → Result Unread MessageFault = λ len. and_then (field len.1 (bytes_at len.0 len.1)) behind_it in

@@ -1,3 +1,4 @@
+pub mod Breaking
 pub mod Kind
 pub mod Layout
 pub mod Lists

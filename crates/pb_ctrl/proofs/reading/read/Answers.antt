@@ -1,5 +1,6 @@
 use Rattle.std.proofs.Common.{arith}
 use Rattle.pb_layout.proofs.LayoutLaws.{found_by, only_by}
+use Rattle.pb_layout.proofs.BreakLaws.{breaks_by}
 use Rattle.pb_layout.proofs.FaultLaws.{short_by, unknown_by}
 use Rattle.pb_ctrl.specs.Message.{told, of_type, layout, IsType, keys}
 use Rattle.pb_ctrl.proofs.MessageLaws.{keys-made, known, unknown}
@@ -17,3 +18,7 @@ returns-clause-short c = short_by of_type told c.args.message.now c.read_all.res
 pub returns-clause-unknown : goal.returns-clause-unknown
 returns-clause-unknown c =
     unknown_by of_type IsType known unknown told c.args.message.now c.read_all.result (λ i. omega (arith, c.type_inv.message i)) c.read_all.ensures
+
+pub returns-clause-malformed : goal.returns-clause-malformed
+returns-clause-malformed c =
+    breaks_by layout told c.args.message.now c.read_all.result (λ i. omega (arith, c.type_inv.message i)) c.read_all.ensures
