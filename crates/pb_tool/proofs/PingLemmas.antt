@@ -1,15 +1,14 @@
 -- What a ping's answer means, from what each of its two requests heard.
-use Rattle.std.proofs.Common.{◌≡◌, inl, inr, ℕ, zero, suc, List, [], ◌∷◌, ◌++◌, Result, Ok, Err, refl, sym, ap, subst, ◌∙◌, append_assoc, append-nil, arith}
-use Rattle.pb_base.specs.World.{World, Sent, quiet_ticks, sent}
-use Rattle.pb_base.specs.declared.nsec.Nsec.{Nsec}
+use Rattle.std.proofs.Common.{◌≡◌, inl, inr, ℕ, zero, suc, List, [], ◌∷◌, ◌++◌, Ok, Err, refl, sym, ap, subst, ◌∙◌, append_assoc, append-nil, arith}
+use Rattle.pb_base.specs.World.{World, Sent, sent}
 use Rattle.pb_io.specs.View.{View, Link, LeavesOnly}
 use Rattle.pb_io.proofs.Moments.{LeavesOnly-trans, LeavesOnly-weaker}
 use Rattle.pb_io.proofs.WorldLemmas.{GrowsBy-trans, sent-grown}
 use Rattle.pb_frame.specs.Hearing.{StandsFor}
 use Rattle.pb_ask.specs.Asking.{Asks, Stops}
-use Rattle.pb_ask.specs.Events.{Repeats, Resending, Passes}
+use Rattle.pb_ask.specs.Events.{Resending, Passes}
 use Rattle.pb_ask.specs.Listening.{Listening}
-use Rattle.pb_ask.specs.Stream.{Stream, no_stream}
+use Rattle.pb_ask.specs.Stream.{no_stream}
 use Rattle.pb_ask.specs.declared.question.Outcome.{Outcome}
 use Rattle.pb_ask.specs.declared.question.Outcome.TheVariants as outcome
 use Rattle.pb_ask.proofs.EventLemmas.{sent-append}

@@ -1,4 +1,4 @@
-use Rattle.std.proofs.Common.{◌≡◌, Result, sym, subst, ◌∙◌}
+use Rattle.std.proofs.Common.{Result, sym, subst, ◌∙◌}
 use Rattle.pb_tool.specs.declared.ping.answer.PingFault.{PingFault}
 use Rattle.pb_tool.specs.declared.ping.answer.Pinged.{Pinged}
 use Rattle.pb_tool.specs.Ping.{Pinging}
