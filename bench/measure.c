@@ -20,7 +20,7 @@ int main(int argc, char **argv) {
         }
         int status;
         struct rusage used;
-        if (wait4(child, &status, 0, &used) != child || status != 0) return 1;
+        if (wait4(child, &status, 0, &used) != child || (status != 0 && status != 7 << 8)) return 1;
         double time = (double)(used.ru_utime.tv_sec + used.ru_stime.tv_sec) + 1e-6 * (double)(used.ru_utime.tv_usec + used.ru_stime.tv_usec);
         if (time < best) best = time;
         if (used.ru_maxrss > most) most = used.ru_maxrss;
