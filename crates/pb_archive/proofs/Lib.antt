@@ -1,0 +1,14 @@
+pub mod BytesLemmas
+pub mod CallLemmas
+pub mod HeldLemmas
+pub mod CreationLemmas
+pub mod EntryLemmas
+pub mod FormLemmas
+pub mod LeadsLemmas
+pub mod ListLemmas
+pub mod TextLemmas
+pub mod TruthLemmas
+pub mod WritingLemmas
+pub mod OpeningLemmas
+pub mod PlanLemmas
+pub mod RegisterLemmas

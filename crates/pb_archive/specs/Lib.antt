@@ -1,0 +1,13 @@
+pub mod Archive
+pub mod Creation
+pub mod Entry
+pub mod Faults
+pub mod Find
+pub mod Held
+pub mod Inside
+pub mod Opened
+pub mod Plan
+pub mod PlanRefusal
+pub mod Refusals
+pub mod Seen
+pub mod Truth

@@ -1,0 +1,255 @@
+//! A plan as text: the address that asks and its neighbour in the first line, and a station in each further one.
+ghost use Rattle.std.specs.Prelude.{◌≡◌, ℕ, ◌<◌, ◌≤◌, ◌^◌, [], ◌∷◌, ◌++◌, length, get_or, List, IfOk, IfErr, OnOk, MatchOption, decimal};
+ghost use Rattle.std.specs.List.{flat_map};
+ghost use Rattle.pb_archive.specs.Inside.{Lacks, LineRefuses, first_of};
+ghost use Rattle.pb_archive.specs.Plan.{IsAddress, IsBegun, IsStation, PlanText, station_line};
+ghost use Rattle.pb_archive.specs.PlanRefusal.{PlanRefuses};
+
+use crate::fault::PlanFault;
+use crate::plan::{Draft, Plan, StationFault, StationPlan, address, station_of};
+use pb_base::NodeId;
+use std::alloc::Global;
+
+const SPACE: u8 = b' ';
+
+const LINE_FEED: u8 = b'\n';
+
+/// The bytes before a byte, and those after it.
+#[derive(Clone, Copy)]
+pub(crate) struct Halves<'a> {
+    pub(crate) before: &'a [u8],
+    pub(crate) after: &'a [u8],
+}
+
+// The place of the first such byte; the length where there is none.
+fn place_of(bytes: &[u8], stop: u8) -> usize
+    ensures within { result ≤ length bytes.now }
+    ensures before { (k : ℕ) → k < result → get_or bytes.now k 0 ≡ stop → ⊥ }
+    ensures found { result < length bytes.now → get_or bytes.now result 0 ≡ stop }
+{
+    for (place, byte) in bytes.iter().enumerate() {
+        if *byte == stop {
+            return place;
+        }
+    }
+    bytes.len()
+}
+
+// Cuts at the first such byte; none where there is none.
+fn cut_at(bytes: &[u8], stop: u8) -> Option<Halves>
+    ensures { MatchOption result ((before after : List ℕ) → bytes.now ≡ before ++ stop ∷ after → ⊥)
+        (λ c. (bytes.now ≡ c.before.now ++ stop ∷ c.after.now) × Lacks stop c.before.now) }
+{
+    let place = place_of(bytes, stop);
+    if place == bytes.len() {
+        return None;
+    }
+    Some(Halves {
+        before: &bytes[..place],
+        after: &bytes[place + 1..],
+    })
+}
+
+// A number below 65,536, without a leading zero. It is printed back: `parse` takes a plus and leading zeros too.
+fn number(word: &[u8]) -> Option<u16>
+    ensures { MatchOption result ((n : ℕ) → n < 2 ^ 16 → word.now ≡ decimal n → ⊥) (λ n. word.now ≡ decimal n) }
+{
+    let text = match std::str::from_utf8(word) {
+        Ok(text) => text,
+        Err(_) => return None,
+    };
+    let n = match text.parse::<u16>() {
+        Ok(n) => n,
+        Err(_) => return None,
+    };
+    if itoa::Buffer::new().format(n).as_bytes() != word {
+        return None;
+    }
+    Some(n)
+}
+
+/// A number, and what comes after it and its end.
+#[derive(Clone, Copy)]
+pub(crate) struct Numbered<'a> {
+    pub(crate) n: u16,
+    pub(crate) rest: &'a [u8],
+}
+
+// What comes after a prefix; none where the text has another.
+fn after<'a>(text: &'a [u8], prefix: &[u8]) -> Option<&'a [u8]>
+    ensures { MatchOption result ((rest : List ℕ) → text.entry.now ≡ prefix.now ++ rest → ⊥) (λ r. text.entry.now ≡ prefix.now ++ r.now) }
+{
+    text.strip_prefix(prefix)
+}
+
+// The number that comes first and ends with this byte, which is no digit.
+fn number_until(text: &[u8], stop: u8) -> Option<Numbered>
+    requires { stop < 48 }
+    ensures { MatchOption result ((n : ℕ) (rest : List ℕ) → n < 2 ^ 16 → text.now ≡ decimal n ++ stop ∷ rest → ⊥)
+        (λ r. (r.n < 2 ^ 16) × (text.now ≡ decimal r.n ++ stop ∷ r.rest.now)) }
+{
+    let halves = match cut_at(text, stop) {
+        Some(halves) => halves,
+        None => return None,
+    };
+    match number(halves.before) {
+        Some(n) => Some(Numbered {
+            n,
+            rest: halves.after,
+        }),
+        None => None,
+    }
+}
+
+/// An address, and what comes after it and its end.
+#[derive(Clone, Copy)]
+pub(crate) struct Addressed<'a> {
+    pub(crate) node: NodeId,
+    pub(crate) rest: &'a [u8],
+}
+
+// The address that comes first and ends with this byte, which is no digit.
+fn address_until(text: &[u8], stop: u8) -> Option<Addressed>
+    requires { stop < 48 }
+    ensures { MatchOption result ((n : ℕ) (rest : List ℕ) → IsAddress n → text.now ≡ decimal n ++ stop ∷ rest → ⊥)
+        (λ r. IsAddress r.node × (text.now ≡ decimal r.node ++ stop ∷ r.rest.now)) }
+{
+    let first = match number_until(text, stop) {
+        Some(first) => first,
+        None => return None,
+    };
+    match address(first.n) {
+        Some(node) => Some(Addressed {
+            node,
+            rest: first.rest,
+        }),
+        None => None,
+    }
+}
+
+/// Two addresses, and what comes after their line.
+#[derive(Clone, Copy)]
+pub(crate) struct First<'a> {
+    pub(crate) me: NodeId,
+    pub(crate) via: NodeId,
+    pub(crate) rest: &'a [u8],
+}
+
+// The two addresses of the first line; none where no such line comes first.
+fn read_first(text: &[u8]) -> Option<First>
+    ensures { MatchOption result ((me via : ℕ) (rest : List ℕ) → IsAddress me → IsAddress via → text.now ≡ first_of me via rest → ⊥)
+        (λ f. IsAddress f.me × IsAddress f.via × (text.now ≡ first_of f.me f.via f.rest.now)) }
+{
+    let text = match after(text, b"self ") {
+        Some(text) => text,
+        None => return None,
+    };
+    let me = match address_until(text, SPACE) {
+        Some(me) => me,
+        None => return None,
+    };
+    let text = match after(me.rest, b"via ") {
+        Some(text) => text,
+        None => return None,
+    };
+    match address_until(text, LINE_FEED) {
+        Some(via) => Some(First {
+            me: me.node,
+            via: via.node,
+            rest: via.rest,
+        }),
+        None => None,
+    }
+}
+
+/// A station, and what comes after its line.
+#[derive(Clone, Copy)]
+pub(crate) struct Next<'a> {
+    pub(crate) station: StationPlan,
+    pub(crate) rest: &'a [u8],
+}
+
+// The station of the next line; none where no such line comes next.
+fn read_station(me: NodeId, text: &[u8]) -> Option<Next>
+    ensures { MatchOption result ((s : _) (more : List ℕ) → IsStation me s → text.now ≡ station_line s ++ more → ⊥)
+        (λ r. IsStation me r.station × (text.now ≡ station_line r.station ++ r.rest.now)) }
+{
+    let text = match after(text, b"station ") {
+        Some(text) => text,
+        None => return None,
+    };
+    let addr = match number_until(text, SPACE) {
+        Some(addr) => addr,
+        None => return None,
+    };
+    let code = match number_until(addr.rest, SPACE) {
+        Some(code) => code,
+        None => return None,
+    };
+    let name = match cut_at(code.rest, LINE_FEED) {
+        Some(name) => name,
+        None => return None,
+    };
+    match station_of(me, addr.n, code.n, name.before) {
+        Some(station) => Some(Next {
+            station,
+            rest: name.after,
+        }),
+        None => None,
+    }
+}
+
+// Adds the stations of all further lines.
+fn read_stations(draft: &mut Draft, text: &[u8]) -> Result<(), PlanFault>
+    requires begun { IsBegun draft.old }
+    requires first { draft.old.stations ≡ [] }
+    ensures read { OnOk result (IsBegun draft.new × (draft.new.me ≡ draft.old.me) × (draft.new.via ≡ draft.old.via)
+        × (text.now ≡ flat_map station_line draft.new.stations)) }
+    ensures refused { IfErr result (LineRefuses draft.old text.now) }
+{
+    let mut rest = text;
+    let mut line = 2;
+    while rest.len() != 0 {
+        let next = match read_station(draft.me(), rest) {
+            Some(next) => next,
+            None => return Err(PlanFault::Line(line)),
+        };
+        match draft.add(next.station) {
+            Ok(()) => {}
+            Err(StationFault::Refused) => return Err(PlanFault::Line(line)),
+            Err(StationFault::Memory) => return Err(PlanFault::Memory),
+        }
+        rest = next.rest;
+        line += 1;
+    }
+    Ok(())
+}
+
+impl Plan {
+    /// Reads a plan's text. Takes memory: the stations.
+    ///
+    /// The first line is `self ME via NODE`, and 1 to 64 lines `station ADDR CODE NAME` follow; each ends with a line feed.
+    /// Addresses are 1 to 4094, a code is at most 65,535, and a name has 1 to 32 letters, digits, `_` and `-`. Stations
+    /// differ in address and in name, and none has the address ME.
+    pub fn read(alloc: Global, text: &[u8]) -> Result<Plan, PlanFault>
+        ensures found { IfOk result (λ p. PlanText p text.now) }
+        ensures refused { IfErr result (PlanRefuses text.now) }
+    {
+        let first = match read_first(text) {
+            Some(first) => first,
+            None => return Err(PlanFault::Line(1)),
+        };
+        let mut draft = match Draft::new(alloc, first.me, first.via) {
+            Ok(draft) => draft,
+            Err(_) => return Err(PlanFault::Memory),
+        };
+        match read_stations(&mut draft, first.rest) {
+            Ok(()) => {}
+            Err(fault) => return Err(fault),
+        }
+        match Plan::of_draft(draft) {
+            Some(plan) => Ok(plan),
+            None => Err(PlanFault::Line(2)),
+        }
+    }
+}
