@@ -1,9 +1,10 @@
 //! `pakbus`: collects the records of dataloggers over PakBus. Here the real source, sink and site are made.
 #![tactic(auto)]
 
-ghost use Rattle.std.specs.Prelude.{◌≡◌, [], map, get_or, string_bytes};
+ghost use Rattle.std.specs.Prelude.{◌≡◌, codes, map, get_or, string_bytes};
 
 mod fault_count;
+mod host_file;
 mod host_link;
 mod host_sink;
 mod host_site;
@@ -27,20 +28,20 @@ fn main(rt: HostRuntime) -> ExitCode {
         Err(error) if error.kind() == ErrorKind::InvalidData => Vec::new(rt.alloc()),
         Err(_) => return ExitCode::from(pb_tool::Status::Memory.code()),
     };
-    let mut site = HostSite::new(&rt, peer_of(&words));
+    let mut site = HostSite::new(&rt, word_at(&words, 0), word_at(&words, 1));
     let mut input = HostSource::new(Waiting::new(&rt, rt.stdin()));
     let mut out = HostSink::new(Waiting::new(&rt, rt.stdout()));
     let status = pb_tool::run(rt.alloc(), &words, &mut site, &mut input, &mut out);
     ExitCode::from(status.code())
 }
 
-// The second word names the peer. Without one there is no peer.
-fn peer_of(words: &[String]) -> &str
-    ensures { result.now ≡ get_or (map string_bytes words.now) 1 [] }
+// The first word names the archive's file, the second the peer. Where a word is missing there is none of them.
+fn word_at(words: &[String], n: usize) -> &str
+    ensures { result.now ≡ get_or (map string_bytes words.now) n (codes "-") }
 {
-    match words.get(1) {
+    match words.get(n) {
         Some(word) => word.as_str(),
-        None => "",
+        None => "-",
     }
 }
 

@@ -1,4 +1,5 @@
 mod CauseLemmas
+mod CheckLemmas
 mod ClosingLemmas
 mod LineLemmas
 mod PingLemmas

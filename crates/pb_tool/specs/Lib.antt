@@ -1,5 +1,8 @@
 pub mod Causes
+pub mod Check
 pub mod Closing
+pub mod Init
+pub mod Input
 pub mod Inside
 pub mod MessageText
 pub mod Order
@@ -7,6 +10,7 @@ pub mod PacketText
 pub mod Ping
 pub mod PingText
 pub mod Ran
+pub mod Refusal
 pub mod ShowText
 pub mod Showed
 pub mod Showing

@@ -5,8 +5,12 @@ use Rattle.pb_tool.specs.declared.words.Command.TheVariants as command
 
 pub data Order : Type 0 where
   Show : Order
+  Init : Order
+  Check : Order
   Ping : (me node : ℕ) → Order
 
 abbrev pub order_of : Command → Order
 order_of command.Show = Show
+order_of command.Init = Init
+order_of command.Check = Check
 order_of (command.Ping me node) = Ping me node

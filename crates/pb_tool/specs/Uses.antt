@@ -4,9 +4,12 @@ use Rattle.std.specs.Bool.{OnFalse}
 use Rattle.pb_io.specs.Disk.{ReadsOnly}
 use Rattle.pb_io.specs.Site.{SendsAtMost}
 use Rattle.pb_io.specs.Outside.{Outside}
+use Rattle.pb_io.specs.Settled.{Leaves as DiskLeaves}
 use Rattle.pb_io.specs.View.{LeavesOnly}
+use Rattle.pb_journal.specs.Changes.{Keeps}
 use Rattle.pb_io.specs.declared.disk.Disk as disk
-use Rattle.pb_tool.specs.Order.{Order, Show, Ping}
+use Rattle.pb_tool.specs.Init.{InitLeaves}
+use Rattle.pb_tool.specs.Order.{Order, Show, Init, Check, Ping}
 use Rattle.pb_tool.specs.Ping.{Greets}
 use Rattle.pb_tool.specs.declared.status.Status.{Status}
 
@@ -19,6 +22,8 @@ pub record Uses : Type 0 where
 abbrev pub uses : Option Order → Uses
 uses None = record { input = false; disk = false; link = false }
 uses (Some Show) = record { input = true; disk = false; link = false }
+uses (Some Init) = record { input = true; disk = true; link = false }
+uses (Some Check) = record { input = false; disk = true; link = false }
 uses (Some (Ping me node)) = record { input = false; disk = false; link = true }
 
 -- What the command doesn't use is as it was.
@@ -29,9 +34,11 @@ pub record Leaves {S I : Type 0} (d : disk.Ghosts S) (u : Uses) (site_old : S) (
   pub disk_faults : OnFalse u.disk ((d.view site_new).faults ≡ (d.view site_old).faults)
   pub link : OnFalse u.link ((d.view site_new).link ≡ (d.view site_old).link)
 
--- What a crash at some moment of the command may leave, with the world of that moment. A command that writes no file
+-- What a crash at some moment of the command may leave, with the world of that moment. A command that makes no disk call
 -- leaves an image at entry, and the world at entry with a prefix of the frames that it sends, some of them again.
 abbrev pub MayLeave : Option Order → Status → Outside → Outside → Type 0
 MayLeave None result before after = LeavesOnly before.site after.site (SendsAtMost [] before.site)
 MayLeave (Some Show) result before after = LeavesOnly before.site after.site (SendsAtMost [] before.site)
+MayLeave (Some Init) result before after = InitLeaves before after
+MayLeave (Some Check) result before after = DiskLeaves Keeps before.site after.site
 MayLeave (Some (Ping me node)) result before after = LeavesOnly before.site after.site (Greets me node before.site)

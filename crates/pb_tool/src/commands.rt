@@ -9,16 +9,17 @@ ghost use Rattle.pb_tool.specs.Words.{Said};
 
 use crate::closing::close;
 use crate::words::{self, Command};
-use crate::{Status, ping, show};
+use crate::{Status, check, init, ping, show};
 use pb_io::{Sink, Site, Source};
 use std::alloc::Global;
 
 /// Runs the command that `words` name, all words after the program's name, and answers how it ended. Its lines go to
 /// `out`, the closing ones too. Words of no listed form do nothing but print their closing line.
 ///
-/// `show` reads `input` to its end, and `ping` greets a node over the link of `site`. Neither takes memory.
+/// `show` reads `input` to its end, and `ping` greets a node over the link of `site`; neither takes memory. `init` makes an
+/// archive of the plan that `input` is, in the file of `site`, and `check` tells what the archive there holds.
 pub fn run<S: Site, I: Source, O: Sink>(
-    _alloc: Global,
+    alloc: Global,
     words: &[String],
     site: &mut S,
     input: &mut I,
@@ -44,13 +45,14 @@ pub fn run<S: Site, I: Source, O: Sink>(
         (outside S.Disk I.Source O.Sink site.new input.new out.new) }
 {
     match words::parse(words) {
-        Some(command) => perform(command, site, input, out),
+        Some(command) => perform(alloc, command, site, input, out),
         None => close(out, b"pakbus: usage\n", Status::Usage),
     }
 }
 
 // Runs a command.
 fn perform<S: Site, I: Source, O: Sink>(
+    alloc: Global,
     command: Command,
     site: &mut S,
     input: &mut I,
@@ -69,6 +71,8 @@ fn perform<S: Site, I: Source, O: Sink>(
 {
     match command {
         Command::Show => show::print(input, out),
+        Command::Init => init::print(alloc, site, input, out),
+        Command::Check => check::print(alloc, site, out),
         Command::Ping { me, node } => ping::print(me, node, site, out),
     }
 }

@@ -1,11 +1,16 @@
 //! The commands of `pakbus`, over any site, source and sink.
 #![tactic(auto)]
 
+mod check;
 mod closing;
 mod commands;
+mod init;
+mod input;
 mod ping;
+mod refusal;
 mod show;
 mod status;
+mod text;
 mod words;
 
 pub use commands::run;

@@ -127,3 +127,73 @@ fn refuses_words_that_are_not_listed(rt: HostRuntime) -> Result<(), Fail> {
     assert_eq!(rt; status, Status::WriteFault);
     Ok(())
 }
+
+const PLAN: &[u8] = b"self 4094 via 1\nstation 10 0 north\n";
+
+// Runs a command over a site and an input in memory, and compares its status and what it writes.
+fn prints(
+    alloc: Global,
+    name: &str,
+    site: &mut MemSite,
+    input: &[u8],
+    wanted: (Status, &[u8]),
+) -> Result<bool, Fail> {
+    let mut words = Vec::new(alloc);
+    for word in ["-", "-", name] {
+        words.push(String::from_str(alloc, word)?)?;
+    }
+    let mut source = MemSource::new(alloc, input, 7, &[])?;
+    let mut sink = MemSink::new(alloc, &[])?;
+    let status = run(alloc, &words, site, &mut source, &mut sink);
+    Ok(status == wanted.0 && sink.bytes() == wanted.1)
+}
+
+fn site_of(alloc: Global, file: &[u8], fails: &[u64]) -> Result<MemSite, Fail> {
+    Ok(MemSite::new(alloc, MemDisk::new(alloc, file, fails)?, &[])?)
+}
+
+#[test]
+fn makes_an_archive_and_checks_it(rt: HostRuntime) -> Result<(), Fail> {
+    let alloc = rt.alloc();
+    let none: &[u8] = b"pakbus: no archive\n";
+    let exists: &[u8] = b"pakbus: archive exists\n";
+    let mut site = site_of(alloc, &[], &[])?;
+    assert!(rt; prints(alloc, "check", &mut site, b"", (Status::NotCreated, none))?);
+    assert!(rt; prints(alloc, "init", &mut site, PLAN, (Status::Done, b""))?);
+    assert!(rt; prints(alloc, "init", &mut site, PLAN, (Status::Exists, exists))?);
+    assert!(rt; prints(alloc, "check", &mut site, b"", (Status::Done, b""))?);
+    Ok(())
+}
+
+#[test]
+fn refuses_plans_and_files(rt: HostRuntime) -> Result<(), Fail> {
+    let alloc = rt.alloc();
+    let byte: &[u8] = b"pakbus: format at byte 0\n";
+    let line: &[u8] = b"pakbus: format at line 2\n";
+    let long: &[u8] = b"pakbus: format at byte 16384\n";
+    let fault: &[u8] = b"pakbus: disk fault\n";
+    let mut site = site_of(alloc, &[0x41; 10], &[])?;
+    assert!(rt; prints(alloc, "check", &mut site, b"", (Status::Format, byte))?);
+    assert!(rt; prints(alloc, "init", &mut site, PLAN, (Status::Format, byte))?);
+    let mut site = site_of(alloc, &[], &[2])?;
+    assert!(rt;
+        prints(
+            alloc,
+            "init",
+            &mut site,
+            b"self 4094 via 1\n",
+            (Status::Format, line)
+        )?
+    );
+    assert!(rt;
+        prints(
+            alloc,
+            "init",
+            &mut site,
+            &[0x20; 16_385],
+            (Status::Format, long)
+        )?
+    );
+    assert!(rt; prints(alloc, "init", &mut site, PLAN, (Status::DiskFault, fault))?);
+    Ok(())
+}

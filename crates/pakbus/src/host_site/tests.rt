@@ -1,7 +1,7 @@
 //! Tests of the real site against a listener, and of the forms of a peer.
 use super::HostSite;
 use crate::peer::host_and_port;
-use pb_io::{Failed, Site};
+use pb_io::{Disk, Failed, Site};
 use std::io::{Read, Write};
 use std::net::TcpListener;
 use std::test::Fail;
@@ -11,7 +11,7 @@ fn talks_to_a_listener(rt: HostRuntime) -> Result<(), Fail> {
     let listener = TcpListener::bind(&rt, "127.0.0.1:0")?;
     let port = listener.local_addr()?.port();
     let peer = format!(in rt.alloc(); "127.0.0.1:{port}")?;
-    let mut site = HostSite::new(&rt, peer.as_str());
+    let mut site = HostSite::new(&rt, "-", peer.as_str());
     let mut bytes = [0u8; 8];
 
     assert!(rt; site.send(b"\xBD\xA0\x01\xBD").is_ok());
@@ -42,7 +42,7 @@ fn tries_a_peer_once(rt: HostRuntime) -> Result<(), Fail> {
     let port = address.port();
     let peer = format!(in rt.alloc(); "127.0.0.1:{port}")?;
     drop(listener);
-    let mut site = HostSite::new(&rt, peer.as_str());
+    let mut site = HostSite::new(&rt, "-", peer.as_str());
     assert_eq!(rt; site.recv(&mut [0; 8]), Err(Failed));
 
     let _listener = TcpListener::bind(&rt, address)?;
@@ -77,4 +77,27 @@ fn reads_the_forms_of_a_peer(rt: HostRuntime) {
     ] {
         assert_eq!(rt; host_and_port(word), None, "{word}");
     }
+}
+
+#[test]
+fn keeps_a_file(rt: HostRuntime) -> Result<(), Fail> {
+    let mut site = HostSite::new(&rt, "kept.pbk", "-");
+    let mut bytes = [0u8; 3];
+    assert_eq!(rt; site.len(), Ok(0));
+    assert_eq!(rt; site.write_at(0, b"abc"), Ok(()));
+    assert_eq!(rt; site.sync(), Ok(()));
+    assert_eq!(rt; site.read_at(0, &mut bytes), Ok(()));
+    assert_eq!(rt; bytes, *b"abc");
+    assert_eq!(rt; site.cut(1), Ok(()));
+    assert_eq!(rt; site.len(), Ok(1));
+
+    // It is locked, and goes on where it was left.
+    let mut other = HostSite::new(&rt, "kept.pbk", "-");
+    assert_eq!(rt; other.len(), Err(Failed));
+    drop(site);
+    let mut again = HostSite::new(&rt, "kept.pbk", "-");
+    assert_eq!(rt; again.len(), Ok(1));
+    assert_eq!(rt; again.cut(0), Ok(()));
+    assert_eq!(rt; HostSite::new(&rt, "-", "-").len(), Err(Failed));
+    Ok(())
 }

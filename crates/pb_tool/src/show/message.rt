@@ -6,7 +6,8 @@ ghost use Rattle.pb_tool.specs.Inside.{key_view};
 
 use crate::show::bmp5::push_bmp5;
 use crate::show::ctrl::push_ctrl;
-use crate::show::value::{Shown, push_bytes, push_hex, push_shown};
+use crate::show::value::{Shown, push_bytes, push_shown};
+use crate::text::push_hex;
 use pb_base::MessageFault;
 use pb_io::{Page, Part, Sink};
 use pb_packet::{PROTO_BMP5, PROTO_PAKCTRL};

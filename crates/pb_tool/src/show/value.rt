@@ -4,18 +4,14 @@ ghost use Rattle.pb_io.specs.Page.{Adds, printing};
 ghost use Rattle.pb_layout.specs.Inside.{setting_view};
 ghost use Rattle.pb_layout.specs.Lists.{numbers_of, settings_of};
 ghost use Rattle.pb_value.specs.Escape.{name_text};
-ghost use Rattle.pb_value.specs.Hex.{hex};
 ghost use Rattle.pb_tool.specs.MessageText.{bytes_text, shown_text, list_text, setting_text, after_comma, or_dash, mode_number, Time};
 ghost use Rattle.pb_tool.specs.Inside.{shown_view};
 
+use crate::text::{push_escaped, push_hex};
 use pb_base::Nsec;
 use pb_bmp5::Mode;
 use pb_io::{Page, Part, Sink};
 use pb_layout::{Numbers, Setting, Settings};
-use pb_value::{ESCAPED_MAX, escape_into, hex_digits_into};
-
-/// How many bytes are written in hexadecimal, or escaped, at once.
-const STEP: usize = 64;
 
 /// The value of a key.
 #[derive(Clone, Copy)]
@@ -99,28 +95,6 @@ pub fn push_bytes<O: Sink>(page: &mut Page, bytes: &[u8], out: &mut O)
     push_hex(page, bytes, out);
 }
 
-/// Adds bytes in hexadecimal.
-pub fn push_hex<O: Sink>(page: &mut Page, bytes: &[u8], out: &mut O)
-    ensures { Adds (hex bytes.now) (printing O.Sink page.old out.old) (printing O.Sink page.new out.new) }
-{
-    let mut left = bytes;
-    while !left.is_empty() {
-        let (chunk, rest) = left.split_at(left.len().min(STEP));
-        push_digits(page, chunk, out);
-        left = rest;
-    }
-}
-
-fn push_digits<O: Sink>(page: &mut Page, bytes: &[u8], out: &mut O)
-    requires { length bytes.now ≤ STEP }
-    ensures { Adds (hex bytes.now) (printing O.Sink page.old out.old) (printing O.Sink page.new out.new) }
-{
-    let mut digits = [0; 2 * STEP];
-    let len = 2 * bytes.len();
-    hex_digits_into(bytes, &mut digits[..len]);
-    page.push(&digits[..len], out);
-}
-
 /// Adds a name, escaped, or `-` where it is empty.
 pub fn push_name<O: Sink>(page: &mut Page, name: &[u8], out: &mut O)
     ensures { Adds (or_dash name.now (name_text name.now)) (printing O.Sink page.old out.old) (printing O.Sink page.new out.new) }
@@ -130,27 +104,6 @@ pub fn push_name<O: Sink>(page: &mut Page, name: &[u8], out: &mut O)
         return;
     }
     push_escaped(page, name, out);
-}
-
-/// Adds a name, escaped.
-pub fn push_escaped<O: Sink>(page: &mut Page, name: &[u8], out: &mut O)
-    ensures { Adds (name_text name.now) (printing O.Sink page.old out.old) (printing O.Sink page.new out.new) }
-{
-    let mut left = name;
-    while !left.is_empty() {
-        let (chunk, rest) = left.split_at(left.len().min(STEP));
-        push_characters(page, chunk, out);
-        left = rest;
-    }
-}
-
-fn push_characters<O: Sink>(page: &mut Page, name: &[u8], out: &mut O)
-    requires { length name.now ≤ STEP }
-    ensures { Adds (name_text name.now) (printing O.Sink page.old out.old) (printing O.Sink page.new out.new) }
-{
-    let mut characters = [0; ESCAPED_MAX * STEP];
-    let len = escape_into(name, &mut characters).unwrap();
-    page.push(&characters[..len], out);
 }
 
 fn push_numbers<O: Sink>(page: &mut Page, bytes: &[u8], out: &mut O)
