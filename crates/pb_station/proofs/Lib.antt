@@ -1,0 +1,17 @@
+pub mod AnswerLemmas
+pub mod AnsweredLemmas
+pub mod CutLemmas
+pub mod FileLemmas
+pub mod FullLemmas
+pub mod LawLemmas
+pub mod MakingLemmas
+pub mod PrefixLemmas
+pub mod ReplyLemmas
+pub mod RunLemmas
+pub mod SentLemmas
+pub mod SettingLemmas
+pub mod StoringLemmas
+pub mod TableLemmas
+pub mod TimesLemmas
+pub mod TruthLemmas
+pub mod WrittenLemmas

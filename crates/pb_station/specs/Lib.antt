@@ -1,0 +1,10 @@
+pub mod Answer
+pub mod Clock
+pub mod Collect
+pub mod Files
+pub mod Inside
+pub mod Making
+pub mod Settings
+pub mod State
+pub mod Storing
+pub mod Truth
