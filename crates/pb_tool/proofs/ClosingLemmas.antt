@@ -1,5 +1,5 @@
 -- What a page that was finished wrote.
-use Rattle.std.proofs.Common.{◌≡◌, ℕ, List, [], true, inl, inr, subst, sym}
+use Rattle.std.proofs.Common.{◌≡◌, ℕ, List, [], inl, inr}
 use Rattle.pb_io.specs.Outside.{Output}
 use Rattle.pb_io.specs.Page.{Waiting, Adds, blank}
 use Rattle.pb_io.proofs.PageLemmas.{Adds-flushed, Appends-flushed, BreaksOff-flushed}

@@ -1,5 +1,5 @@
 -- What `check` prints of an archive: a line for each of its tables.
-use Rattle.std.specs.Prelude.{◌≡◌, ℕ, ◌-◌, List, [], ◌∷◌, ◌++◌, Option, None, Some, Result, Ok, Err, slice_get, codes, decimal}
+use Rattle.std.specs.Prelude.{◌≡◌, ℕ, ◌-◌, List, [], ◌∷◌, Option, None, Some, Result, Ok, Err, slice_get, codes, decimal}
 use Rattle.std.specs.List.{flat_map}
 use Rattle.std.specs.Option.{ForSome}
 use Rattle.pb_archive.specs.Archive.{Archive}
@@ -7,7 +7,6 @@ use Rattle.pb_archive.specs.Held.{HasArchive}
 use Rattle.pb_archive.specs.Opened.{OpenArchive, Register, kept_of, register_of}
 use Rattle.pb_archive.specs.Plan.{Plan}
 use Rattle.pb_archive.specs.Refusals.{OpenRefuses}
-use Rattle.pb_archive.specs.declared.archive.Archive as code
 use Rattle.pb_archive.specs.declared.fault.ArchiveFault.{ArchiveFault}
 use Rattle.pb_archive.specs.declared.held.Held.{Held}
 use Rattle.pb_archive.specs.declared.plan.StationPlan.{StationPlan}

@@ -3,7 +3,6 @@ use Rattle.std.specs.Prelude.{◌≡◌, ◌⊎◌, ⊤, ℕ, ◌≤◌, List, [
 use Rattle.pb_archive.specs.Creation.{Inits, KeepsOrInits}
 use Rattle.pb_archive.specs.Plan.{Plan, PlanText, RefusedLine}
 use Rattle.pb_archive.specs.Refusals.{InitRefuses}
-use Rattle.pb_archive.specs.declared.fault.ArchiveFault.{ArchiveFault}
 use Rattle.pb_archive.specs.declared.fault.ArchiveFault.TheVariants as archive
 use Rattle.pb_io.specs.Crash.{Changes}
 use Rattle.pb_io.specs.Faults.{Rose}

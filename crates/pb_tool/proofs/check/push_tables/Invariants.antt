@@ -1,4 +1,4 @@
-use Rattle.std.proofs.Common.{take, map}
+use Rattle.std.proofs.Common.{take}
 use Rattle.std.specs.List.{flat_map}
 use Rattle.pb_io.specs.Page.{Adds, printing}
 use Rattle.pb_tool.specs.Check.{table_text}

@@ -1,5 +1,4 @@
 use Rattle.std.proofs.Common.{ℕ, subst}
-use Rattle.pb_io.specs.Page.{Adds, printing}
 use Rattle.pb_tool.specs.declared.status.Status.{Status}
 use Rattle.pb_tool.specs.Closing.{Closes}
 use Rattle.pb_tool.specs.PingText.{ping_text}

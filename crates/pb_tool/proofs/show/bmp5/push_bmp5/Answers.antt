@@ -1,6 +1,5 @@
 use Rattle.std.proofs.Common.{sym, ap, Result}
 use Rattle.pb_base.specs.declared.message.MessageFault.{MessageFault}
-use Rattle.pb_base.specs.Fields.{whole}
 use Rattle.pb_bmp5.specs.Message.{Message, told, layout, keys}
 use Rattle.pb_io.proofs.PageLemmas.{Adds-as}
 use Rattle.pb_layout.proofs.LayoutLaws.{reading-only}

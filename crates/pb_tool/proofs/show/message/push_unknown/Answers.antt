@@ -1,4 +1,4 @@
-use Rattle.std.proofs.Common.{append_assoc, refl}
+use Rattle.std.proofs.Common.{refl}
 use Rattle.std.proofs.lemmas.List.{append-nil}
 use Rattle.pb_io.proofs.PageLemmas.{Adds-four}
 use Rattle.pb_tool.specs.MessageText.{unknown_text}

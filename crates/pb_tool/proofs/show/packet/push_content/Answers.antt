@@ -1,4 +1,4 @@
-use Rattle.std.proofs.Common.{Result, Ok, ap, sym, ◌∙◌}
+use Rattle.std.proofs.Common.{Ok, ap, sym, ◌∙◌}
 use Rattle.pb_packet.specs.declared.headers.Packet.{Packet}
 use Rattle.pb_packet.specs.Packet.{seen}
 use Rattle.pb_io.proofs.PageLemmas.{Adds-as, Adds-trans}

@@ -1,5 +1,4 @@
-use Rattle.std.proofs.Common.{append_assoc, refl}
-use Rattle.std.proofs.lemmas.List.{append-nil}
+use Rattle.std.proofs.Common.{refl}
 use Rattle.pb_io.proofs.PageLemmas.{Adds-three}
 use Rattle.pb_tool.specs.PacketText.{header_text}
 use Rattle.pb_tool.proofs.show.packet.push_header.Goals as goal

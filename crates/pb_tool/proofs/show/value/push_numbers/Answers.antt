@@ -1,7 +1,7 @@
 use Rattle.std.proofs.Common.{sym, ◌∙◌, refl}
 use Rattle.pb_io.proofs.PageLemmas.{Adds-as}
 use Rattle.std.specs.Prelude.{decimal}
-use Rattle.pb_tool.proofs.SpelledLemmas.{Listed-first, Listed-more, Listed-none, Listed-all}
+use Rattle.pb_tool.proofs.SpelledLemmas.{Listed-more, Listed-none, Listed-all}
 use Rattle.pb_tool.proofs.show.value.push_numbers.Goals as goal
 
 pub returns-in_default : goal.returns-in_default

@@ -1,4 +1,4 @@
-use Rattle.std.proofs.Common.{length, List, ℕ, ◌∷◌, ◌≡◌}
+use Rattle.std.proofs.Common.{length}
 use Rattle.std.specs.Prelude.{decimal}
 use Rattle.pb_io.specs.Page.{printing}
 use Rattle.pb_layout.specs.Lists.{numbers_of}

@@ -1,5 +1,4 @@
-use Rattle.std.proofs.Common.{length, List, ◌∷◌, ◌≡◌}
-use Rattle.pb_layout.specs.Kind.{Setting}
+use Rattle.std.proofs.Common.{length}
 use Rattle.pb_tool.specs.MessageText.{setting_text}
 use Rattle.pb_io.specs.Page.{printing}
 use Rattle.pb_layout.specs.Lists.{settings_of}
