@@ -6,7 +6,7 @@ use Rattle.pb_base.specs.Put.{IsWritten}
 use Rattle.pb_base.specs.Record.{content}
 use Rattle.pb_base.specs.History.{History}
 use Rattle.pb_bmp5.specs.Message.{CollectKeys, DownloadKeys, UploadKeys}
-use Rattle.pb_bmp5.specs.TrueReply as true
+use Rattle.pb_bmp5.specs.TrueReply as replies
 use Rattle.pb_ring.specs.Ring.{Kept, oldest_of}
 use Rattle.pb_station.specs.declared.bmp5_answers.Part.{Part}
 use Rattle.pb_station.specs.declared.bmp5_answers.Wanted.{Wanted}
@@ -34,10 +34,10 @@ IsCollected (Sends fragments more) table old new (Ok n) = IsWritten (body table 
 
 -- ---- runs
 
-abbrev pub seen_run : Run → true.Run
+abbrev pub seen_run : Run → replies.Run
 seen_run r = record { from = r.from; to = r.to }
 
-abbrev pub stage_in : Kept → true.Stage
+abbrev pub stage_in : Kept → replies.Stage
 stage_in ring = record { next = ring.next; oldest = oldest_of ring }
 
 abbrev pub history_in : Kept → List StoredRecord → History
