@@ -1,0 +1,9 @@
+pub mod AskedLemmas
+pub mod GrowthLemmas
+pub mod HearingLemmas
+pub mod KeepingLemmas
+pub mod LearningLemmas
+pub mod PairLemmas
+pub mod StreamLemmas
+pub mod TableLemmas
+pub mod ViewLemmas

@@ -1,0 +1,165 @@
+use Rattle.std.proofs.Common.{◌≡◌, ℕ, None, false, List, [], ◌∷◌, ◌++◌, length, refl, sym, ◌∙◌, arith, append_assoc, append-nil, inl, inr}
+use Rattle.std.proofs.lemmas.List.Elements.{Contains-push}
+use Rattle.pb_base.specs.World.{all_heard, heard_from}
+use Rattle.pb_base.specs.History.{history}
+use Rattle.pb_io.proofs.WorldLemmas.{history-later}
+use Rattle.pb_frame.specs.Framing.{frame, IsContentSize}
+use Rattle.pb_packet.specs.declared.headers.LinkState.TheVariants.{Ready}
+use Rattle.pb_packet.specs.declared.headers.Header.{Header}
+use Rattle.pb_packet.specs.Packet.{full, PacketBytes, IsValidHeader}
+use Rattle.pb_bmp5.specs.declared.message.Mode.TheVariants as wire
+use Rattle.pb_bmp5.specs.Message.{Collect, CollectKeys, MessageReads}
+use Rattle.pb_bmp5.specs.CollectReply.{whole, Begins}
+use Rattle.pb_bmp5.specs.TrueReply.{IsTrueOf, TrueReply}
+use Rattle.pb_bmp5.specs.WorkedReply.{worked_definition, worked_request, worked_reply}
+use Rattle.pb_bmp5.proofs.TrueLemmas.{reply-stays}
+use Rattle.pb_truth.specs.Asked.{request_of, AsksFor, IsIn, WasAsked}
+use Rattle.pb_truth.specs.Honest.{Delivers}
+use Rattle.pb_truth.specs.Worked.{asking, answering, before_the_reply, worked_world}
+use Rattle.pb_truth.proofs.StreamLemmas.{frame_has}
+use Rattle.pb_truth.proofs.worked.a_record_is_asked_for_and_comes.Goals as goal
+
+abbrev out : Header
+out = record {
+  phys = record { state = Ready; dst = 10; more = 0; priority = 1; src = 4094 };
+  proto = 1;
+  dst = 10;
+  hops = 0;
+  src = 4094;
+}
+
+out_valid : IsValidHeader out
+out_valid = record {
+  phys = record { dst = (omega arith, omega arith); more = omega arith; priority = omega arith; src = (omega arith, omega arith) };
+  proto = omega arith;
+  dst = (omega arith, omega arith);
+  hops = omega arith;
+  src = (omega arith, omega arith);
+}
+
+abbrev command : List ℕ
+command = 9 ∷ 1 ∷ 0 ∷ 0 ∷ 4 ∷ 0 ∷ 1 ∷ 0x8A ∷ 0x5F ∷ 0 ∷ 0 ∷ 0 ∷ 0 ∷ 0 ∷ 0 ∷ []
+
+abbrev its_keys : CollectKeys
+its_keys = record { code = 0; mode = wire.From 0; table = 1; sig = 0x8A5F; fields = [] }
+
+reads : MessageReads (Collect 1 its_keys) command
+reads = record {
+  valid = record { obeys = (tt, (tt, (tt, ((omega arith, omega arith), (tt, (tt, (tt, (tt, tt)))))))); makes = refl };
+  fits = (omega arith, (omega arith, (omega arith, (omega arith, (omega arith, (omega arith, (omega arith, (tt, tt))))))));
+  rest = [];
+  parts = refl;
+  ends = (tt, (tt, (tt, (tt, (tt, (tt, (tt, (tt, tt))))))));
+}
+
+asks : AsksFor asking worked_request
+unfolding out_valid reads
+asks = record {
+  header = out;
+  message = command;
+  packet = record { valid = out_valid; bytes = refl };
+  proto = refl;
+  tran = 1;
+  keys = its_keys;
+  reads = reads;
+  is = refl;
+}
+
+-- ---- the reply
+
+abbrev back : Header
+back = record {
+  phys = record { state = Ready; dst = 4094; more = 0; priority = 1; src = 10 };
+  proto = 1;
+  dst = 4094;
+  hops = 0;
+  src = 10;
+}
+
+delivers : Delivers answering worked_reply
+delivers = record {
+  header = back;
+  message = worked_reply.message;
+  packet = record {
+    valid = record {
+      phys = record { dst = (omega arith, omega arith); more = omega arith; priority = omega arith; src = (omega arith, omega arith) };
+      proto = omega arith;
+      dst = (omega arith, omega arith);
+      hops = omega arith;
+      src = (omega arith, omega arith);
+    };
+    bytes = refl;
+  };
+  is = refl;
+}
+
+abbrev content_bytes : List ℕ
+content_bytes = 0 ∷ 0 ∷ 0 ∷ 7 ∷ 0 ∷ 0 ∷ 0 ∷ 0 ∷ 0xAA ∷ 0xBB ∷ []
+
+says : IsTrueOf worked_request worked_reply.message (history before_the_reply worked_request.table)
+says = record {
+  definition = worked_definition;
+  stood = Contains-push [] worked_definition;
+  reply = record { tran = 1; resp = 0; more = false; fragments = whole 0 1 content_bytes ∷ [] };
+  reads = record { body = _; parts = refl; has = (0, (0 ∷ [], begins, refl), refl) };
+  answer = record {
+    stage = record { next = 1; oldest = 0 };
+    lies = record { held = omega arith; stored = omega arith; overwritten = omega arith };
+    holds = (record { not_lost = omega arith; there = omega arith; same = refl }, tt);
+    answers = record { begins = refl; below = (omega arith, tt); ends = (λ e. inl (inl (refl, tt)), λ ends. refl) };
+  };
+}
+  where
+    begins : Begins 1 worked_definition.layout None (whole 0 1 content_bytes) (0 ∷ 1 ∷ 0 ∷ 0 ∷ 0 ∷ 0 ∷ 0 ∷ 1 ∷ 0 ∷ 0 ∷ 0 ∷ 7 ∷ 0 ∷ 0 ∷ 0 ∷ 0 ∷ 0xAA ∷ 0xBB ∷ 0 ∷ []) (0 ∷ [])
+    begins = record {
+      after = 0 ∷ [];
+      leads = record { parts = refl; number = omega arith; fits = (omega arith, omega arith); its_bytes = refl; some = omega arith };
+      ends = tt;
+      formed = record { goes_on = tt; of_layout = λ interval k lt. absurd cc; numbered = omega arith };
+      goes = refl;
+    }
+
+is_true : TrueReply worked_request worked_reply (history before_the_reply)
+is_true = record { src = refl; dst = refl; proto = refl; resp = 0; body = _; parts = refl; says = λ complete. says }
+
+is_true_still : TrueReply worked_request worked_reply (history worked_world)
+is_true_still =
+    reply-stays worked_request worked_reply (history before_the_reply) (history worked_world) is_true (history-later before_the_reply (all_heard (frame answering)))
+
+heard-bytes : (had bytes : List ℕ) → heard_from had (all_heard bytes) ≡ had ++ bytes
+heard-bytes had [] = sym (append-nil had)
+heard-bytes had (b ∷ bytes) = heard-bytes (had ++ b ∷ []) bytes ∙ append_assoc had (b ∷ []) bytes
+
+was_asked : IsIn worked_request (frame asking) → WasAsked worked_world worked_request
+was_asked is = (frame asking, (0, omega arith, refl), is)
+
+abbrev Written : Type 0
+Written = (content message : List ℕ) (header : Header) (tran : ℕ) (keys : CollectKeys) → IsContentSize (length content) → PacketBytes (full header message) content → MessageReads (Collect tran keys) message
+    → header.proto ≡ 1 → IsIn (request_of header tran keys) (frame content)
+
+is_in : Written → IsIn worked_request (frame asking)
+is_in written = written asking command out 1 its_keys (inr (omega arith, omega arith)) (record { valid = out_valid; bytes = refl }) reads refl
+
+pub returns-clause-asks : goal.returns-clause-asks
+returns-clause-asks c = asks
+
+pub returns-clause-asked : goal.returns-clause-asked
+returns-clause-asked c = was_asked (is_in c.written_frames_ask_once.ensures.asks)
+
+pub returns-clause-heard : goal.returns-clause-heard
+returns-clause-heard c = record {
+  earlier = [];
+  judged = frame answering;
+  waiting = [];
+  stream = heard-bytes [] (frame answering) ∙ sym (append-nil (frame answering));
+  content = answering;
+  has = frame_has answering (inr (omega arith, omega arith));
+  delivers = delivers;
+}
+
+pub returns-clause-answer : goal.returns-clause-answer
+returns-clause-answer c = record {
+  request = worked_request;
+  asked = was_asked (is_in c.written_frames_ask_once.ensures.asks);
+  reply = is_true_still;
+}
