@@ -130,70 +130,74 @@ fn refuses_words_that_are_not_listed(rt: HostRuntime) -> Result<(), Fail> {
 
 const PLAN: &[u8] = b"self 4094 via 1\nstation 10 0 north\n";
 
+// A command, its input, its status, and what it writes.
+type Row<'a> = (&'a str, &'a [u8], Status, &'a [u8]);
+
 // Runs a command over a site and an input in memory, and compares its status and what it writes.
-fn prints(
-    alloc: Global,
-    name: &str,
-    site: &mut MemSite,
-    input: &[u8],
-    wanted: (Status, &[u8]),
-) -> Result<bool, Fail> {
+fn prints(alloc: Global, site: &mut MemSite, row: Row) -> Result<bool, Fail> {
     let mut words = Vec::new(alloc);
-    for word in ["-", "-", name] {
+    for word in ["-", "-", row.0] {
         words.push(String::from_str(alloc, word)?)?;
     }
-    let mut source = MemSource::new(alloc, input, 7, &[])?;
+    let mut source = MemSource::new(alloc, row.1, 7, &[])?;
     let mut sink = MemSink::new(alloc, &[])?;
     let status = run(alloc, &words, site, &mut source, &mut sink);
-    Ok(status == wanted.0 && sink.bytes() == wanted.1)
+    Ok(status == row.2 && sink.bytes() == row.3)
 }
 
-fn site_of(alloc: Global, file: &[u8], fails: &[u64]) -> Result<MemSite, Fail> {
-    Ok(MemSite::new(alloc, MemDisk::new(alloc, file, fails)?, &[])?)
+// Whether commands over one file in memory, of whose disk calls some fail, print what their rows say.
+fn all_print(alloc: Global, file: &[u8], fails: &[u64], rows: &[Row]) -> Result<bool, Fail> {
+    let mut site = MemSite::new(alloc, MemDisk::new(alloc, file, fails)?, &[])?;
+    for row in rows {
+        if !prints(alloc, &mut site, *row)? {
+            return Ok(false);
+        }
+    }
+    Ok(true)
 }
 
 #[test]
 fn makes_an_archive_and_checks_it(rt: HostRuntime) -> Result<(), Fail> {
-    let alloc = rt.alloc();
-    let none: &[u8] = b"pakbus: no archive\n";
-    let exists: &[u8] = b"pakbus: archive exists\n";
-    let mut site = site_of(alloc, &[], &[])?;
-    assert!(rt; prints(alloc, "check", &mut site, b"", (Status::NotCreated, none))?);
-    assert!(rt; prints(alloc, "init", &mut site, PLAN, (Status::Done, b""))?);
-    assert!(rt; prints(alloc, "init", &mut site, PLAN, (Status::Exists, exists))?);
-    assert!(rt; prints(alloc, "check", &mut site, b"", (Status::Done, b""))?);
+    let rows: &[Row] = &[
+        ("check", b"", Status::NotCreated, b"pakbus: no archive\n"),
+        ("init", PLAN, Status::Done, b""),
+        ("init", PLAN, Status::Exists, b"pakbus: archive exists\n"),
+        ("check", b"", Status::Done, b""),
+    ];
+    assert!(rt; all_print(rt.alloc(), &[], &[], rows)?);
     Ok(())
 }
 
 #[test]
 fn refuses_plans_and_files(rt: HostRuntime) -> Result<(), Fail> {
-    let alloc = rt.alloc();
-    let byte: &[u8] = b"pakbus: format at byte 0\n";
-    let line: &[u8] = b"pakbus: format at line 2\n";
-    let long: &[u8] = b"pakbus: format at byte 16384\n";
-    let fault: &[u8] = b"pakbus: disk fault\n";
-    let mut site = site_of(alloc, &[0x41; 10], &[])?;
-    assert!(rt; prints(alloc, "check", &mut site, b"", (Status::Format, byte))?);
-    assert!(rt; prints(alloc, "init", &mut site, PLAN, (Status::Format, byte))?);
-    let mut site = site_of(alloc, &[], &[2])?;
-    assert!(rt;
-        prints(
-            alloc,
+    let no_journal: &[Row] = &[
+        ("check", b"", Status::Format, b"pakbus: format at byte 0\n"),
+        ("init", PLAN, Status::Format, b"pakbus: format at byte 0\n"),
+    ];
+    assert!(rt; all_print(rt.alloc(), b"AAAAAAAAAA", &[], no_journal)?);
+    let no_plan: &[Row] = &[
+        (
             "init",
-            &mut site,
             b"self 4094 via 1\n",
-            (Status::Format, line)
-        )?
+            Status::Format,
+            b"pakbus: format at line 2\n",
+        ),
+        ("init", PLAN, Status::DiskFault, b"pakbus: disk fault\n"),
+    ];
+    assert!(rt; all_print(rt.alloc(), &[], &[2], no_plan)?);
+    Ok(())
+}
+
+#[test]
+fn refuses_a_plan_that_is_too_long(rt: HostRuntime) -> Result<(), Fail> {
+    let mut spaces = Vec::new(rt.alloc());
+    spaces.resize(16_385, b' ')?;
+    let row = (
+        "init",
+        spaces.as_slice(),
+        Status::Format,
+        b"pakbus: format at byte 16384\n".as_slice(),
     );
-    assert!(rt;
-        prints(
-            alloc,
-            "init",
-            &mut site,
-            &[0x20; 16_385],
-            (Status::Format, long)
-        )?
-    );
-    assert!(rt; prints(alloc, "init", &mut site, PLAN, (Status::DiskFault, fault))?);
+    assert!(rt; all_print(rt.alloc(), &[], &[], &[row])?);
     Ok(())
 }
