@@ -1,7 +1,8 @@
 -- The last colon of a word cuts a peer's host from its port.
 use Rattle.std.proofs.Common.{Option, None, Some, MatchOption, Bor, inl, ⊎_elim, ◌≡◌, ◌≢◌, ℕ, ◌<◌, List, [], ◌∷◌, ◌++◌, length, get_or, take, drop, ◌==◌, ◌^◌, refl, sym, subst, ap, ◌∙◌, arith}
 use Rattle.std.proofs.lemmas.List.{take-append-drop, get_or_at, length-append}
-use Rattle.std.proofs.lemmas.Str.Parse.{digit_at}
+use Rattle.std.proofs.lemmas.Fmt.{digits_decimal}
+use Rattle.std.proofs.lemmas.Str.Parse.{digit_at, numerals_by_value, tells_digits}
 use Rattle.std.proofs.lemmas.Str.Pattern.{NoCharPasses-char, drop_at_char}
 use Rattle.std.specs.Str.{NoCharPasses}
 use Rattle.std.specs.Str.Parse.{AllDigits}
@@ -14,6 +15,9 @@ Lacks c xs = (i : ℕ) → i < length xs → get_or xs i 0 ≢ c
 
 digits_lack_colon : (ds : List ℕ) → AllDigits 10 ds → Lacks 58 ds
 digits_lack_colon ds all i below is = let range = digit_at ds i all below in omega (arith, range, is)
+
+port_digits : (digits : List ℕ) (port : ℕ) → port < 2 ^ 16 → IsPort digits port → AllDigits 10 digits
+port_digits digits port small is = subst (AllDigits 10) (sym is.text) (digits_decimal (numerals_by_value (AllDigits 10) tells_digits) port (omega arith))
 
 -- a c that stands behind the cut would be there
 behind : (c : ℕ) (back front rest : List ℕ) → back ≡ front ++ (c ∷ rest) → Lacks c back → ⊥
@@ -38,8 +42,8 @@ last_cut c s front back small cut = (
 )
 
 -- a port is cut off by the last colon
-pub cut_peer : (word host back other : List ℕ) (port : ℕ) → (word ≡ other ++ (58 ∷ back)) × Lacks 58 back → (p : IsPeer word host port) → (other ≡ p.text) × (back ≡ p.digits)
-cut_peer word host back other port cut p = one_cut 58 other back p.text p.digits (sym cut.0 ∙ p.form) cut.1 (digits_lack_colon p.digits p.port_is.decimal.1)
+pub cut_peer : (word host back other : List ℕ) (port : ℕ) → port < 2 ^ 16 → (word ≡ other ++ (58 ∷ back)) × Lacks 58 back → (p : IsPeer word host port) → (other ≡ p.text) × (back ≡ p.digits)
+cut_peer word host back other port small cut p = one_cut 58 other back p.text p.digits (sym cut.0 ∙ p.form) cut.1 (digits_lack_colon p.digits (port_digits p.digits port small p.port_is))
 
 -- a word without a colon names no peer
 pub no_colon : (word host : List ℕ) (port : ℕ) → NoCharPasses (λ d. d == 58) word → IsPeer word host port → ⊥
@@ -48,12 +52,12 @@ no_colon word host port none p = behind 58 word p.text p.digits p.form (λ i bel
 -- a port that no digits write isn't that of a peer
 pub no_port : (word host back other : List ℕ) (port : ℕ) → (word ≡ other ++ (58 ∷ back)) × Lacks 58 back → ((n : ℕ) → n < 2 ^ 16 → ¬ IsPort back n) → port < 2 ^ 16 → IsPeer word host port → ⊥
 no_port word host back other port cut none small p =
-    let P : List ℕ → Type 0 = λ digits. IsPort digits port in none port small (subst P (sym (cut_peer word host back other port cut p).1) p.port_is)
+    let P : List ℕ → Type 0 = λ digits. IsPort digits port in none port small (subst P (sym (cut_peer word host back other port small cut p).1) p.port_is)
 
 -- nor is a text that names no host
-pub no_host : (word host back other : List ℕ) (port : ℕ) → (word ≡ other ++ (58 ∷ back)) × Lacks 58 back → ((h : List ℕ) → 0 < length h → ¬ IsHost other h) → IsPeer word host port → ⊥
-no_host word host back other port cut none p =
-    let P : List ℕ → Type 0 = λ text. IsHost text host in none host p.some_host (subst P (sym (cut_peer word host back other port cut p).0) p.host_is)
+pub no_host : (word host back other : List ℕ) (port : ℕ) → (word ≡ other ++ (58 ∷ back)) × Lacks 58 back → ((h : List ℕ) → 0 < length h → ¬ IsHost other h) → port < 2 ^ 16 → IsPeer word host port → ⊥
+no_host word host back other port cut none small p =
+    let P : List ℕ → Type 0 = λ text. IsHost text host in none host p.some_host (subst P (sym (cut_peer word host back other port small cut p).0) p.host_is)
 
 -- what stands in brackets is the host, unless it is empty
 pub bracketed : (text rest host : List ℕ) (r : Option (Bor (List ℕ))) → text ≡ 91 ∷ rest → rest ≡ host ++ (93 ∷ [])

@@ -1,12 +1,10 @@
 -- The word that names a peer.
-use Rattle.std.specs.Prelude.{◌≡◌, ◌≢◌, ◌⊎◌, ℕ, ◌<◌, List, [], ◌∷◌, ◌++◌, length, slice_index, codes}
-use Rattle.std.specs.Str.Parse.{IsNumeral, digits_value}
+use Rattle.std.specs.Prelude.{◌≡◌, ◌≢◌, ◌⊎◌, ℕ, ◌<◌, ◌≤◌, List, [], ◌∷◌, ◌++◌, length, codes, decimal}
 
--- the digits write this port, in decimal and without a leading zero
+-- the digits write this port, which isn't 0
 pub record IsPort (digits : List ℕ) (port : ℕ) : Type 0 where
-  pub decimal : IsNumeral 10 digits
-  pub no_zero : slice_index digits 0 ≢ 48
-  pub value : digits_value 10 digits ≡ port
+  pub text : digits ≡ decimal port
+  pub some : 1 ≤ port
 
 -- the text of a host: in brackets, as an address with colons is written, or as it is
 abbrev pub IsHost : List ℕ → List ℕ → Type 0

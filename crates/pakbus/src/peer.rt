@@ -2,6 +2,8 @@
 ghost use Rattle.std.specs.Prelude.{◌≡◌, ℕ, List, ◌<◌, ◌^◌, length, MatchOption};
 ghost use Rattle.pakbus.specs.Peer.{IsHost, IsPeer, IsPort};
 
+use pb_base::parse_decimal;
+
 /// The host and the TCP port of a word `HOST:PORT`; `None` where it has another form. The port stands after the last
 /// colon: 1 to 65535 in decimal digits, without a leading zero. A host may stand in brackets, as an address with
 /// colons is written. `listen:PORT` names no host.
@@ -39,12 +41,13 @@ fn some_host(host: &str) -> Option<&str>
     Some(host)
 }
 
-// The port that digits write. `parse` alone would take a plus and zeros in front.
+// The port that digits write.
 fn port_of(digits: &str) -> Option<u16>
     ensures { MatchOption result ((port : ℕ) → port < 2 ^ 16 → ¬ IsPort digits.now port) (λ port. IsPort digits.now port) }
 {
-    if digits.starts_with('+') || digits.starts_with('0') {
+    let port = parse_decimal(digits.as_bytes())?;
+    if port == 0 || port > u32::from(u16::MAX) {
         return None;
     }
-    digits.parse().ok()
+    Some(port as u16)
 }

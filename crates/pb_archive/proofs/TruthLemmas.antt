@@ -3,10 +3,10 @@ use Rattle.std.proofs.Common.{ℕ, suc, List, [], ◌∷◌, length, Some, None,
 use Rattle.std.specs.Prelude.{Option}
 use Rattle.pb_base.specs.History.{TableKey, History, GoesOn, Later}
 use Rattle.pb_archive.specs.Archive.{Table, Archive}
-use Rattle.pb_archive.specs.Truth.{Fits, AllFit, SoundTable, Sound}
+use Rattle.pb_archive.specs.Truth.{RowIsTrue, RowsAreTrue, SoundTable, Sound}
 use Rattle.pb_archive.proofs.ListLemmas.{slice_get-IsFront}
 
-fits_later : (old new : History) (number : ℕ) (row : Option (List ℕ)) → GoesOn old new → Fits old number row → Fits new number row
+fits_later : (old new : History) (number : ℕ) (row : Option (List ℕ)) → GoesOn old new → RowIsTrue old number row → RowIsTrue new number row
 fits_later old new number None later fits = omega (arith, later.oldest, fits)
 fits_later old new number (Some bytes) later fits = record {
   stored = fits.stored;
@@ -14,7 +14,7 @@ fits_later old new number (Some bytes) later fits = record {
   same = fits.same;
 }
 
-all_fit_later : (old new : History) (number : ℕ) (rows : List (Option (List ℕ))) → GoesOn old new → AllFit old number rows → AllFit new number rows
+all_fit_later : (old new : History) (number : ℕ) (rows : List (Option (List ℕ))) → GoesOn old new → RowsAreTrue old number rows → RowsAreTrue new number rows
 all_fit_later old new number [] later fit = fit
 all_fit_later old new number (row ∷ rows) later fit = (fits_later old new number row later fit.0, all_fit_later old new (suc number) rows later fit.1)
 

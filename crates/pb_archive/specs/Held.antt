@@ -1,6 +1,6 @@
 -- The archive in a file, and what a writing call makes of it.
 use Rattle.std.specs.Prelude.{◌≡◌, ◌⊎◌, List, ℕ}
-use Rattle.pb_io.specs.Crash.{Changes, Follows}
+use Rattle.pb_io.specs.Crash.{Changes, AriseBy}
 use Rattle.pb_io.specs.Settled.{IsSettled, Leaves}
 use Rattle.pb_io.specs.View.{View}
 use Rattle.pb_journal.specs.Entries.{Entries}
@@ -49,5 +49,5 @@ pub record Writes (change : Change) (old new : View) : Type 0 where
 -- What it did where it answers Ok: the change is in the file, and in each that a crash may leave, and nothing is pending.
 pub record Wrote (change : Change) (old new : View) : Type 0 where
   pub file : Changes (Makes change) old.file new.file
-  pub images : Follows (Makes change) old.image new.image
+  pub images : AriseBy (Makes change) old.image new.image
   pub settled : IsSettled new

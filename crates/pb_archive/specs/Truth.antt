@@ -12,18 +12,18 @@ pub record IsContentOf (h : History) (number : ℕ) (bytes : List ℕ) : Type 0 
   pub same : bytes ≡ content stored
 
 -- A gap was overwritten, and a kept content is the record's.
-abbrev pub Fits : History → ℕ → Option (List ℕ) → Type 0
-Fits h number None = number < h.oldest
-Fits h number (Some bytes) = IsContentOf h number bytes
+abbrev pub RowIsTrue : History → ℕ → Option (List ℕ) → Type 0
+RowIsTrue h number None = number < h.oldest
+RowIsTrue h number (Some bytes) = IsContentOf h number bytes
 
 -- the rows from a number on
-abbrev pub AllFit : History → ℕ → List (Option (List ℕ)) → Type 0
-AllFit h number [] = ⊤
-AllFit h number (row ∷ rows) = Fits h number row × AllFit h (suc number) rows
+abbrev pub RowsAreTrue : History → ℕ → List (Option (List ℕ)) → Type 0
+RowsAreTrue h number [] = ⊤
+RowsAreTrue h number (row ∷ rows) = RowIsTrue h number row × RowsAreTrue h (suc number) rows
 
 pub record SoundTable (t : Table) (h : History) : Type 0 where
   pub below : front t ≤ length h.records
-  pub fit : AllFit h 0 t.rows
+  pub fit : RowsAreTrue h 0 t.rows
 
 -- each table is true of the history of its station, number and signature
 abbrev pub Sound : Archive → (TableKey → History) → Type 0

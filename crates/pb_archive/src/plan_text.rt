@@ -7,7 +7,7 @@ ghost use Rattle.pb_archive.specs.PlanRefusal.{PlanRefuses};
 
 use crate::fault::PlanFault;
 use crate::plan::{Draft, Plan, StationFault, StationPlan, address, station_of};
-use pb_base::NodeId;
+use pb_base::{NodeId, parse_decimal};
 use std::alloc::Global;
 
 const SPACE: u8 = b' ';
@@ -50,22 +50,18 @@ fn cut_at(bytes: &[u8], stop: u8) -> Option<Halves>
     })
 }
 
-// A number below 65,536, without a leading zero. It is printed back: `parse` takes a plus and leading zeros too.
+// A number below 65,536.
 fn number(word: &[u8]) -> Option<u16>
     ensures { MatchOption result ((n : ℕ) → n < 2 ^ 16 → word.now ≡ decimal n → ⊥) (λ n. word.now ≡ decimal n) }
 {
-    let text = match std::str::from_utf8(word) {
-        Ok(text) => text,
-        Err(_) => return None,
+    let n = match parse_decimal(word) {
+        Some(n) => n,
+        None => return None,
     };
-    let n = match text.parse::<u16>() {
-        Ok(n) => n,
-        Err(_) => return None,
-    };
-    if itoa::Buffer::new().format(n).as_bytes() != word {
+    if n > u32::from(u16::MAX) {
         return None;
     }
-    Some(n)
+    Some(n as u16)
 }
 
 /// A number, and what comes after it and its end.

@@ -37,7 +37,8 @@ pub record Sending {A : Type 0} (wanted : Wanted A) (limits : Limits) (old : Lis
   pub is_due : IsDue (ShownBy old.ear) old.inbox wanted.asked limits heard shown due
 
 -- Nothing that was judged after the sending ended the request; all was judged, and it was no flood.
-pub record IsVain {A : Type 0} (wanted : Wanted A) (limits : Limits) (old new : Listening) (due : ℕ) (s : Sending wanted limits old due new) : Type 0 where
+pub record IsVain {A : Type 0} (wanted : Wanted A) (limits : Limits) (old new : Listening) (due : ℕ)
+    (s : Sending wanted limits old due new) : Type 0 where
   pub none : NoneShows (EndsBy wanted) s.shown
   pub all : new.inbox ≡ []
   pub no_flood : length (bytes_heard s.heard) < FLOOD
@@ -46,19 +47,27 @@ pub record IsVain {A : Type 0} (wanted : Wanted A) (limits : Limits) (old new : 
 abbrev pub Resent : {A : Type 0} → Wanted A → Limits → ℕ → Listening → World → Listening → Type 0
 Resent wanted limits zero old events new = (events ≡ []) × (new ≡ old)
 Resent wanted limits (suc n) old events new =
-    (mid : Listening) × (before : World) × Resent wanted limits n old before mid × ((s : Sending wanted limits mid 0 new) × IsVain wanted limits mid new 0 s × (events ≡ before ++ (Sent wanted.frame ∷ s.heard)))
+    (mid : Listening) × (before : World) × Resent wanted limits n old before mid
+    × ((s : Sending wanted limits mid 0 new) × IsVain wanted limits mid new 0 s
+    × (events ≡ before ++ (Sent wanted.frame ∷ s.heard)))
 
 -- why a request ended after its last sending
-abbrev pub OutcomeOf : {A : Type 0} (wanted : Wanted A) (limits : Limits) (resends : ℕ) (mid new : Listening) (due : ℕ) → Sending wanted limits mid due new → Outcome A → Type 0
+abbrev pub OutcomeOf : {A : Type 0} (wanted : Wanted A) (limits : Limits) (resends : ℕ) (mid new : Listening) (due : ℕ)
+    → Sending wanted limits mid due new → Outcome A → Type 0
 OutcomeOf wanted limits resends mid new due s (Answer answer) =
-    EndsWith (EndsBy wanted) (ended.Answer answer) s.shown × Holds (EndsBy wanted) (ended.Answer answer) new.ear × CameWith s.heard new.inbox × (0 < due)
-OutcomeOf wanted limits resends mid new due s (Undelivered code) = EndsWith (EndsBy wanted) (ended.Undelivered code) s.shown × CameWith s.heard new.inbox × (0 < due)
-OutcomeOf wanted limits resends mid new due s NoAnswer = IsVain wanted limits mid new due s × (resends + 1 ≡ limits.sends) × (due ≡ 0)
-OutcomeOf wanted limits resends mid new due s Flooded = NoneShows (EndsBy wanted) s.shown × (new.inbox ≡ []) × (FLOOD ≤ length (bytes_heard s.heard)) × (0 < due)
+    EndsWith (EndsBy wanted) (ended.Answer answer) s.shown × Holds (EndsBy wanted) (ended.Answer answer) new.ear
+    × CameWith s.heard new.inbox × (0 < due)
+OutcomeOf wanted limits resends mid new due s (Undelivered code) =
+    EndsWith (EndsBy wanted) (ended.Undelivered code) s.shown × CameWith s.heard new.inbox × (0 < due)
+OutcomeOf wanted limits resends mid new due s NoAnswer = IsVain wanted limits mid new due s
+    × (resends + 1 ≡ limits.sends) × (due ≡ 0)
+OutcomeOf wanted limits resends mid new due s Flooded = NoneShows (EndsBy wanted) s.shown × (new.inbox ≡ [])
+    × (FLOOD ≤ length (bytes_heard s.heard)) × (0 < due)
 
 -- The frame was sent at least once and at most as often as the limits say, and all sendings but the last were in vain.
 -- Of the good frames that were judged the first that ends the request is the last; what came after it waits.
-pub record Asks {A : Type 0} (wanted : Wanted A) (limits : Limits) (old : Listening) (link_old : Link) (outcome : Outcome A) (new : Listening) (link_new : Link) : Type 0 where
+pub record Asks {A : Type 0} (wanted : Wanted A) (limits : Limits) (old : Listening) (link_old : Link)
+    (outcome : Outcome A) (new : Listening) (link_new : Link) : Type 0 where
   pub resends : ℕ
   pub few : resends < limits.sends
   pub before : World
@@ -81,10 +90,12 @@ JudgedAs wanted Flooded shown = NoneShows (EndsBy wanted) shown
 pub data Breaks {A : Type 0} (wanted : Wanted A) (limits : Limits) (mid : Listening) : World → Listening → Type 0 where
   Unsent : Breaks wanted limits mid [] mid
   SentOnly : Breaks wanted limits mid (Sent wanted.frame ∷ []) mid
-  Hearing : (new : Listening) (due : ℕ) (s : Sending wanted limits mid due new) → IsVain wanted limits mid new due s → 0 < due → Breaks wanted limits mid (Sent wanted.frame ∷ s.heard) new
+  Hearing : (new : Listening) (due : ℕ) (s : Sending wanted limits mid due new) → IsVain wanted limits mid new due s
+      → 0 < due → Breaks wanted limits mid (Sent wanted.frame ∷ s.heard) new
 
 -- A call of the link failed, before which nothing that was judged ended the request.
-pub record Stops {A : Type 0} (wanted : Wanted A) (limits : Limits) (old : Listening) (link_old : Link) (new : Listening) (link_new : Link) : Type 0 where
+pub record Stops {A : Type 0} (wanted : Wanted A) (limits : Limits) (old : Listening) (link_old : Link) (new : Listening)
+    (link_new : Link) : Type 0 where
   pub resends : ℕ
   pub few : resends < limits.sends
   pub before : World

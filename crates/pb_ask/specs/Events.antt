@@ -18,7 +18,8 @@ HearsOnly (event ∷ rest) = ⊥
 abbrev pub CameWith : World → List ℕ → Type 0
 CameWith heard waiting =
     (heard ≡ [])
-    ⊎ ((earlier : World) × (taken : List ℕ) × (heard ≡ earlier ++ all_heard (taken ++ waiting)) × (0 < length taken) × (length (taken ++ waiting) ≤ CHUNK))
+    ⊎ ((earlier : World) × (taken : List ℕ) × (heard ≡ earlier ++ all_heard (taken ++ waiting)) × (0 < length taken)
+    × (length (taken ++ waiting) ≤ CHUNK))
 
 -- ---- what a crash may leave
 

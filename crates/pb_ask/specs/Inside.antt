@@ -27,7 +27,8 @@ pub record HeedsContent (content : List ℕ) (old new : Waiting) : Type 0 where
 -- these verdicts set the quiet ticks that are still to be heard, or leave them
 abbrev pub SetsDue : Asked → Limits → List Verdict → ℕ → ℕ → Type 0
 SetsDue asked limits shown old new =
-    ((seconds : ℕ) × LastShows (AsksToWait asked) seconds shown × (new ≡ ticks_after_wait limits seconds)) ⊎ (NoneShows (AsksToWait asked) shown × (new ≡ old))
+    ((seconds : ℕ) × LastShows (AsksToWait asked) seconds shown × (new ≡ ticks_after_wait limits seconds))
+    ⊎ (NoneShows (AsksToWait asked) shown × (new ≡ old))
 
 -- these verdicts were heeded
 pub record Heeds (shown : List Verdict) (old new : Waiting) : Type 0 where
@@ -35,7 +36,8 @@ pub record Heeds (shown : List Verdict) (old new : Waiting) : Type 0 where
   pub due : SetsDue old.asked old.limits shown old.due new.due
 
 -- bytes at hand were judged, up to the first frame that shows something where one does
-pub record Judged {E : Type 0} (P : E → List ℕ → Type 0) (old : Listening) (e_old : Waiting) (result : Option E) (new : Listening) (e_new : Waiting) : Type 0 where
+pub record Judged {E : Type 0} (P : E → List ℕ → Type 0) (old : Listening) (e_old : Waiting) (result : Option E)
+    (new : Listening) (e_new : Waiting) : Type 0 where
   pub pushed : List ℕ
   pub shown : List Verdict
   pub follows : Follows old.ear pushed shown new.ear
@@ -56,21 +58,28 @@ pub record Counted (old : Waiting) (n : ℕ) (step : Step) (new : Waiting) : Typ
 -- ---- after one sending
 
 -- what the link heard meanwhile, and how far the unframer went
-pub record Run (old : Listening) (link_old : Link) (heard : World) (new : Listening) (link_new : Link) (pushed : List ℕ) : Type 0 where
+pub record Run (old : Listening) (link_old : Link) (heard : World) (new : Listening) (link_new : Link)
+    (pushed : List ℕ) : Type 0 where
   pub grows : GrowsBy link_old.world link_new.world heard
   pub quiets : RoseBy (quiet_ticks heard) link_old.quiets link_new.quiets
   pub room : length old.inbox ≤ 4096
   pub count : new.ear.count ≡ old.ear.count + length pushed
 
 -- the end of listening: so that the request is to be sent again, or with an outcome
-abbrev pub RunEnds : {A : Type 0} (wanted : Wanted A) (e : Waiting) (mid new : Listening) (due : ℕ) → Sending wanted e.limits mid due new → Option (Outcome A) → Waiting → Type 0
-RunEnds wanted e mid new due s None e_new = IsVain wanted e.limits mid new due s × (due ≡ 0) × (e.sent < e.limits.sends) × (e_new ≡ after_sending wanted.asked e.limits (e.sent + 1))
-RunEnds wanted e mid new due s (Some outcome) e_new = (resends : ℕ) × (e.sent ≡ resends + 1) × OutcomeOf wanted e.limits resends mid new due s outcome
+abbrev pub RunEnds : {A : Type 0} (wanted : Wanted A) (e : Waiting) (mid new : Listening) (due : ℕ)
+    → Sending wanted e.limits mid due new → Option (Outcome A) → Waiting → Type 0
+RunEnds wanted e mid new due s None e_new = IsVain wanted e.limits mid new due s × (due ≡ 0) × (e.sent < e.limits.sends)
+    × (e_new ≡ after_sending wanted.asked e.limits (e.sent + 1))
+RunEnds wanted e mid new due s (Some outcome) e_new = (resends : ℕ) × (e.sent ≡ resends + 1)
+    × OutcomeOf wanted e.limits resends mid new due s outcome
 
-abbrev pub Listens : {A : Type 0} → Wanted A → Listening → Link → Waiting → Option (Outcome A) → Listening → Link → Waiting → Type 0
+abbrev pub Listens : {A : Type 0} → Wanted A → Listening → Link → Waiting → Option (Outcome A) → Listening → Link
+    → Waiting → Type 0
 Listens wanted old link_old e result new link_new e_new =
-    (due : ℕ) × (s : Sending wanted e.limits old due new) × Run old link_old s.heard new link_new s.pushed × RunEnds wanted e old new due s result e_new
+    (due : ℕ) × (s : Sending wanted e.limits old due new) × Run old link_old s.heard new link_new s.pushed
+    × RunEnds wanted e old new due s result e_new
 
 abbrev pub ListensInVain : {A : Type 0} → Wanted A → Listening → Link → Waiting → Listening → Link → Type 0
 ListensInVain wanted old link_old e new link_new =
-    (due : ℕ) × (s : Sending wanted e.limits old due new) × Run old link_old s.heard new link_new s.pushed × (IsVain wanted e.limits old new due s × (0 < due))
+    (due : ℕ) × (s : Sending wanted e.limits old due new) × Run old link_old s.heard new link_new s.pushed
+    × (IsVain wanted e.limits old new due s × (0 < due))

@@ -1,15 +1,15 @@
 -- What heard bytes show, where P says which content of a good body shows what.
 use Rattle.std.specs.Prelude.{◌≡◌, ℕ, List, [], ◌∷◌, ◌++◌}
-use Rattle.pb_frame.specs.Framing.{Outcome, Whole, Faulty, Verdict}
+use Rattle.pb_frame.specs.Framing.{Finding, Whole, Faulty, Verdict}
 use Rattle.pb_frame.specs.Hearing.{Hearing, Follows, HoldsContent}
 
-abbrev pub OutcomeShows : {E : Type 0} → (E → List ℕ → Type 0) → E → Outcome → Type 0
-OutcomeShows P e (Whole content) = P e content
-OutcomeShows P e (Faulty at why) = ⊥
+abbrev pub FindingShows : {E : Type 0} → (E → List ℕ → Type 0) → E → Finding → Type 0
+FindingShows P e (Whole content) = P e content
+FindingShows P e (Faulty at why) = ⊥
 
 -- the verdict is that of a good body whose content shows e
 abbrev pub Shows : {E : Type 0} → (E → List ℕ → Type 0) → E → Verdict → Type 0
-Shows P e v = OutcomeShows P e v.outcome
+Shows P e v = FindingShows P e v.outcome
 
 -- no verdict shows anything
 abbrev pub NoneShows : {E : Type 0} → (E → List ℕ → Type 0) → List Verdict → Type 0

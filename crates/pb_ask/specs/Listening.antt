@@ -11,4 +11,5 @@ pub record Listening : Type 0 where
 
 -- What was heard since the stream began ends with the bytes that were judged, and then those that wait.
 abbrev pub IsListening : Link → List ℕ → List ℕ → Type 0
-IsListening link judged waiting = (w : World) → link.world ≡ Some w → (earlier : List ℕ) × (heard w ≡ (earlier ++ judged) ++ waiting)
+IsListening link judged waiting = (w : World) → link.world ≡ Some w
+    → (earlier : List ℕ) × (heard w ≡ (earlier ++ judged) ++ waiting)

@@ -32,14 +32,16 @@ pub record GoesOn (old : Stream) (events : World) (shown : List Verdict) (new : 
 
 -- What was heard after one sending, and how many quiet ticks are still to be heard then. Fewer bytes than a flood and
 -- one further chunk were heard.
-pub record SentOnce {A : Type 0} (wanted : Wanted A) (limits : Limits) (old : Stream) (heard : World) (shown : List Verdict) (due : ℕ) (new : Stream) : Type 0 where
+pub record SentOnce {A : Type 0} (wanted : Wanted A) (limits : Limits) (old : Stream) (heard : World)
+    (shown : List Verdict) (due : ℕ) (new : Stream) : Type 0 where
   pub hearing : HearsOnly heard
   pub brief : length (bytes_heard heard) < FLOOD + CHUNK
   pub goes_on : GoesOn old heard shown new
   pub is_due : IsDue (ShownAfter old.judged) old.waiting wanted.asked limits heard shown due
 
 -- It was sent in vain: no verdict ends the request, all was judged, and it was no flood.
-pub record SentInVain {A : Type 0} (wanted : Wanted A) (limits : Limits) (old : Stream) (heard : World) (due : ℕ) (new : Stream) : Type 0 where
+pub record SentInVain {A : Type 0} (wanted : Wanted A) (limits : Limits) (old : Stream) (heard : World) (due : ℕ)
+    (new : Stream) : Type 0 where
   pub shown : List Verdict
   pub sending : SentOnce wanted limits old heard shown due new
   pub none : NoneShows (EndsBy wanted) shown
@@ -50,18 +52,21 @@ pub record SentInVain {A : Type 0} (wanted : Wanted A) (limits : Limits) (old : 
 abbrev pub SentAgain : {A : Type 0} → Wanted A → Limits → ℕ → Stream → World → Stream → Type 0
 SentAgain wanted limits zero old events new = (events ≡ []) × (new ≡ old)
 SentAgain wanted limits (suc n) old events new =
-    (mid : Stream) × (before : World) × SentAgain wanted limits n old before mid × ((heard : World) × SentInVain wanted limits mid heard 0 new × (events ≡ before ++ (Sent wanted.frame ∷ heard)))
+    (mid : Stream) × (before : World) × SentAgain wanted limits n old before mid
+    × ((heard : World) × SentInVain wanted limits mid heard 0 new × (events ≡ before ++ (Sent wanted.frame ∷ heard)))
 
 -- how the last sending came to its end
 abbrev pub EndsAsked : {A : Type 0} → Limits → ℕ → World → ℕ → Stream → Outcome A → Type 0
 EndsAsked limits resends heard due new (Answer answer) = CameWith heard new.waiting × (0 < due)
 EndsAsked limits resends heard due new (Undelivered code) = CameWith heard new.waiting × (0 < due)
-EndsAsked limits resends heard due new NoAnswer = (new.waiting ≡ []) × (resends + 1 ≡ limits.sends) × (due ≡ 0) × (length (bytes_heard heard) < FLOOD)
+EndsAsked limits resends heard due new NoAnswer = (new.waiting ≡ []) × (resends + 1 ≡ limits.sends) × (due ≡ 0)
+    × (length (bytes_heard heard) < FLOOD)
 EndsAsked limits resends heard due new Flooded = (new.waiting ≡ []) × (0 < due) × (FLOOD ≤ length (bytes_heard heard))
 
 -- A request was asked: it was sent at least once and at most as often as the limits say, all sendings but the last were
 -- in vain, and of the verdicts that were judged the first that ends the request is the last.
-pub record AsksOn {A : Type 0} (wanted : Wanted A) (limits : Limits) (old : Stream) (events : World) (outcome : Outcome A) (new : Stream) : Type 0 where
+pub record AsksOn {A : Type 0} (wanted : Wanted A) (limits : Limits) (old : Stream) (events : World)
+    (outcome : Outcome A) (new : Stream) : Type 0 where
   pub resends : ℕ
   pub few : resends < limits.sends
   pub before : World
@@ -82,9 +87,11 @@ pub record AsksOn {A : Type 0} (wanted : Wanted A) (limits : Limits) (old : Stre
 pub data BreaksOn {A : Type 0} (wanted : Wanted A) (limits : Limits) (mid : Stream) : World → Stream → Type 0 where
   Unsent : BreaksOn wanted limits mid [] mid
   SentOnly : BreaksOn wanted limits mid (Sent wanted.frame ∷ []) mid
-  Hearing : (heard : World) (due : ℕ) (new : Stream) → SentInVain wanted limits mid heard due new → 0 < due → BreaksOn wanted limits mid (Sent wanted.frame ∷ heard) new
+  Hearing : (heard : World) (due : ℕ) (new : Stream) → SentInVain wanted limits mid heard due new → 0 < due
+      → BreaksOn wanted limits mid (Sent wanted.frame ∷ heard) new
 
-pub record StopsOn {A : Type 0} (wanted : Wanted A) (limits : Limits) (old : Stream) (events : World) (new : Stream) : Type 0 where
+pub record StopsOn {A : Type 0} (wanted : Wanted A) (limits : Limits) (old : Stream) (events : World)
+    (new : Stream) : Type 0 where
   pub resends : ℕ
   pub few : resends < limits.sends
   pub before : World

@@ -15,20 +15,24 @@ pub record RoseBy (n before now : ℕ) : Type 0 where
 
 -- How many quiet ticks these verdicts set, and after which events: from then on the ticks are counted. `Shown bytes vs`
 -- says that the bytes, from those that were at hand at the sending on, show vs.
-pub data IsSet (Shown : List ℕ → List Verdict → Type 0) (hand : List ℕ) (asked : Asked) (limits : Limits) : World → List Verdict → ℕ → Type 0 where
+pub data IsSet (Shown : List ℕ → List Verdict → Type 0) (hand : List ℕ) (asked : Asked) (limits : Limits) : World
+    → List Verdict → ℕ → Type 0 where
   -- the limit, from the sending on
   BySending : IsSet Shown hand asked limits [] [] limits.quiets
   -- the limit and the seconds of a please-wait, from the sending on: its frame was at hand
-  AtHand : (taken rest : List ℕ) (shown : List Verdict) (seconds : ℕ) → hand ≡ taken ++ rest → Shown taken shown → LastShows (AsksToWait asked) seconds shown
+  AtHand : (taken rest : List ℕ) (shown : List Verdict) (seconds : ℕ) → hand ≡ taken ++ rest → Shown taken shown
+      → LastShows (AsksToWait asked) seconds shown
       → IsSet Shown hand asked limits [] shown (ticks_after_wait limits seconds)
   -- the limit and the seconds of a please-wait, from the chunk on in which its frame ended
-  ByChunk : (earlier : World) (taken rest : List ℕ) (shown more : List Verdict) (seconds : ℕ) → Shown (hand ++ bytes_heard earlier) shown
+  ByChunk : (earlier : World) (taken rest : List ℕ) (shown more : List Verdict) (seconds : ℕ)
+      → Shown (hand ++ bytes_heard earlier) shown
       → Shown ((hand ++ bytes_heard earlier) ++ taken) (shown ++ more) → LastShows (AsksToWait asked) seconds more
       → IsSet Shown hand asked limits (earlier ++ all_heard (taken ++ rest)) (shown ++ more) (ticks_after_wait limits seconds)
 
 -- So many quiet ticks are still to be heard: those that the sending set, or the last please-wait after it, less those
 -- that were quiet since.
-pub record IsDue (Shown : List ℕ → List Verdict → Type 0) (hand : List ℕ) (asked : Asked) (limits : Limits) (heard : World) (shown : List Verdict) (due : ℕ) : Type 0 where
+pub record IsDue (Shown : List ℕ → List Verdict → Type 0) (hand : List ℕ) (asked : Asked) (limits : Limits)
+    (heard : World) (shown : List Verdict) (due : ℕ) : Type 0 where
   pub before : World
   pub since : World
   pub first : List Verdict

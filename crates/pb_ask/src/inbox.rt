@@ -70,7 +70,9 @@ impl Inbox {
         ensures count { IfOk result (λ n. n ≡ length self.new) }
         ensures few { length self.new ≤ 4096 }
         ensures nothing { OnErr result (self.new ≡ []) }
-        ensures world { MatchResult result (λ _. GrowsBy (S.view site.old).link.world (S.view site.new).link.world (arrival self.new)) (λ _. GrowsBy (S.view site.old).link.world (S.view site.new).link.world []) }
+        ensures world { MatchResult result
+            (λ _. GrowsBy (S.view site.old).link.world (S.view site.new).link.world (arrival self.new))
+            (λ _. GrowsBy (S.view site.old).link.world (S.view site.new).link.world []) }
         ensures tick { IfOk result (λ n. n ≡ 0 → (S.view site.new).link.quiets ≡ counted (S.view site.old).link.quiets) }
         ensures no_tick { IfOk result (λ n. 0 < n → (S.view site.new).link.quiets ≡ (S.view site.old).link.quiets) }
         ensures still { OnErr result ((S.view site.new).link.quiets ≡ (S.view site.old).link.quiets) }

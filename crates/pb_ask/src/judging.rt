@@ -18,7 +18,8 @@ pub(crate) fn judge_content<Q: Question>(
 ) -> Option<Ended<Q::Answer>>
     requires size { IsContentSize (length content.now) }
     requires asked { exchange.old.asked ≡ (Q.wanted question.now).asked }
-    ensures ends { MatchOption result ((e : Ended Q.Answer) → EndsBy (Q.wanted question.now) e content.now → ⊥) (λ e. EndsBy (Q.wanted question.now) e content.now) }
+    ensures ends { MatchOption result ((e : Ended Q.Answer) → EndsBy (Q.wanted question.now) e content.now → ⊥)
+        (λ e. EndsBy (Q.wanted question.now) e content.now) }
     ensures heeds { HeedsContent content.now exchange.old exchange.new }
 {
     let Ok(Packet::Full(header, message)) = pb_packet::read(content) else {

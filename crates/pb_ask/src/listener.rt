@@ -56,8 +56,11 @@ impl Listener {
         requires sends { 1 ≤ limits.sends }
         requires quiets { 1 ≤ limits.quiets }
         requires count { self.old.ear.count ≤ 2 ^ 61 }
-        ensures asks { IfOk result (λ outcome. Asks (Q.wanted question.now) limits self.old (S.view site.old).link outcome self.new (S.view site.new).link) }
-        ensures stops { OnErr result (Stops (Q.wanted question.now) limits self.old (S.view site.old).link self.new (S.view site.new).link) }
+        ensures asks { IfOk result
+            (λ outcome. Asks (Q.wanted question.now) limits self.old (S.view site.old).link outcome self.new
+            (S.view site.new).link) }
+        ensures stops { OnErr result
+            (Stops (Q.wanted question.now) limits self.old (S.view site.old).link self.new (S.view site.new).link) }
         ensures passes { Passes (Q.wanted question.now).frame limits.sends (S.view site.old) (S.view site.new) }
         ensures cause { HasCause (S.view site.old).link.faults (S.view site.new).link.faults result }
         ensures count { self.new.ear.count ≤ self.old.ear.count + 2 ^ 25 }
@@ -94,8 +97,12 @@ impl Listener {
         requires some { 1 ≤ exchange.old.limits.quiets }
         requires quiets { exchange.old.limits.quiets ≤ 65535 }
         requires count { self.old.ear.count ≤ 2 ^ 61 + 2 ^ 26 }
-        ensures listens { IfOk result (λ r. Listens (Q.wanted question.now) self.old (S.view site.old).link exchange.old r self.new (S.view site.new).link exchange.new) }
-        ensures breaks { OnErr result (ListensInVain (Q.wanted question.now) self.old (S.view site.old).link exchange.old self.new (S.view site.new).link) }
+        ensures listens { IfOk result
+            (λ r. Listens (Q.wanted question.now) self.old (S.view site.old).link exchange.old r self.new
+            (S.view site.new).link exchange.new) }
+        ensures breaks { OnErr result
+            (ListensInVain (Q.wanted question.now) self.old (S.view site.old).link exchange.old self.new
+            (S.view site.new).link) }
         ensures passes { (frame : List ℕ) → Passes frame 0 (S.view site.old) (S.view site.new) }
         ensures cause { HasCause (S.view site.old).link.faults (S.view site.new).link.faults result }
     {

@@ -3,7 +3,7 @@ ghost use Rattle.std.specs.Prelude.{◌≡◌, [], ◌∷◌, ◌<◌, ◌^◌, 
 ghost use Rattle.pb_base.specs.Put.{IsWritten, DoesNotFit};
 ghost use Rattle.pb_layout.specs.Reading.{reading, Gives};
 ghost use Rattle.pb_bmp5.specs.declared.message.Bmp5.TheVariants as bmp5;
-ghost use Rattle.pb_bmp5.specs.Message.{told, clock, clock_reply, InRange, message_bytes};
+ghost use Rattle.pb_bmp5.specs.Message.{message_of, clock, clock_reply, InRange, message_bytes};
 
 use crate::message::{Bmp5, CLOCK, CLOCK_REPLY};
 use crate::refusal::write_refusal;
@@ -12,7 +12,7 @@ use pb_layout::{Keys, Piece, write_pieces};
 
 #[tactic(auto, unfolding(pb_layout::specs::Reading::reading))]
 pub(crate) fn read_clock<'a>(tran: u8, keys: &mut Keys<'a>) -> Result<Bmp5<'a>, MessageFault>
-    ensures { Gives told result (reading (clock tran) keys.old) }
+    ensures { Gives message_of result (reading (clock tran) keys.old) }
 {
     let code = keys.half()?;
     let adjust = keys.time()?;
@@ -20,9 +20,9 @@ pub(crate) fn read_clock<'a>(tran: u8, keys: &mut Keys<'a>) -> Result<Bmp5<'a>, 
 }
 
 pub(crate) fn write_clock(tran: u8, code: u16, adjust: Nsec, out: &mut [u8]) -> Result<usize, Full>
-    ensures written { IfOk result (IsWritten (message_bytes (told (bmp5.Clock tran code adjust))) out.old out.new) }
-    ensures full { OnErr result (DoesNotFit (message_bytes (told (bmp5.Clock tran code adjust))) out.old out.new) }
-    ensures in_range { InRange (told (bmp5.Clock tran code adjust)) }
+    ensures written { IfOk result (IsWritten (message_bytes (message_of (bmp5.Clock tran code adjust))) out.old out.new) }
+    ensures full { OnErr result (DoesNotFit (message_bytes (message_of (bmp5.Clock tran code adjust))) out.old out.new) }
+    ensures in_range { InRange (message_of (bmp5.Clock tran code adjust)) }
 {
     let pieces = [
         Piece::Byte(CLOCK),
@@ -35,7 +35,7 @@ pub(crate) fn write_clock(tran: u8, code: u16, adjust: Nsec, out: &mut [u8]) -> 
 
 #[tactic(auto, unfolding(pb_layout::specs::Reading::reading))]
 pub(crate) fn read_clock_reply<'a>(tran: u8, keys: &mut Keys<'a>) -> Result<Bmp5<'a>, MessageFault>
-    ensures { Gives told result (reading (clock_reply tran) keys.old) }
+    ensures { Gives message_of result (reading (clock_reply tran) keys.old) }
 {
     let resp = keys.byte()?;
     let time = match resp {
@@ -51,9 +51,9 @@ pub(crate) fn write_clock_reply(
     time: Nsec,
     out: &mut [u8],
 ) -> Result<usize, Full>
-    ensures written { IfOk result (IsWritten (message_bytes (told (bmp5.ClockReply tran resp time))) out.old out.new) }
-    ensures full { OnErr result (DoesNotFit (message_bytes (told (bmp5.ClockReply tran resp time))) out.old out.new) }
-    ensures in_range { InRange (told (bmp5.ClockReply tran resp time)) }
+    ensures written { IfOk result (IsWritten (message_bytes (message_of (bmp5.ClockReply tran resp time))) out.old out.new) }
+    ensures full { OnErr result (DoesNotFit (message_bytes (message_of (bmp5.ClockReply tran resp time))) out.old out.new) }
+    ensures in_range { InRange (message_of (bmp5.ClockReply tran resp time)) }
 {
     if resp != 0 {
         return write_refusal(CLOCK_REPLY, tran, resp, out);

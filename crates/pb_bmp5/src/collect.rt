@@ -6,7 +6,7 @@ ghost use Rattle.pb_layout.specs.Layout.{MessageLayout};
 ghost use Rattle.pb_layout.specs.Reading.{reading, Gives};
 ghost use Rattle.pb_bmp5.specs.declared.message.Mode.{Mode as AnyMode};
 ghost use Rattle.pb_bmp5.specs.declared.message.Bmp5.TheVariants as bmp5;
-ghost use Rattle.pb_bmp5.specs.Message.{Message, told, parameters, collect, InRange, message_bytes};
+ghost use Rattle.pb_bmp5.specs.Message.{Message, message_of, parameters, collect, InRange, message_bytes};
 ghost use Rattle.pb_bmp5.specs.Modes.{mode_number, parameter_bytes, ModeFits};
 
 use crate::message::{Bmp5, COLLECT, Mode};
@@ -34,7 +34,7 @@ pub(crate) fn read_collect_command<'a>(
     tran: u8,
     keys: &mut Keys<'a>,
 ) -> Result<Bmp5<'a>, MessageFault>
-    ensures { Gives told result (reading (collect tran) keys.old) }
+    ensures { Gives message_of result (reading (collect tran) keys.old) }
 {
     let code = keys.half()?;
     let number = keys.between(ALL, PART)?;
@@ -54,8 +54,11 @@ pub(crate) fn read_collect_command<'a>(
 
 #[tactic(auto, unfolding(pb_layout::specs::Reading::reading))]
 fn read_parameters(number: u8, keys: &mut Keys) -> Result<Mode, MessageFault>
-    ensures read { IfOk result (λ mode. (next : AnyMode → MessageLayout Message) → reading (parameters number next) keys.old ≡ reading (next mode) keys.new) }
-    ensures refused { IfErr result (λ fault. (next : AnyMode → MessageLayout Message) → reading (parameters number next) keys.old ≡ Err fault) }
+    ensures read { IfOk result
+        (λ mode. (next : AnyMode → MessageLayout Message)
+        → reading (parameters number next) keys.old ≡ reading (next mode) keys.new) }
+    ensures refused { IfErr result
+        (λ fault. (next : AnyMode → MessageLayout Message) → reading (parameters number next) keys.old ≡ Err fault) }
 {
     match number {
         ALL => Ok(Mode::All),
@@ -86,9 +89,11 @@ pub(crate) fn write_collect_command(
     fields: &[u8],
     out: &mut [u8],
 ) -> Result<usize, Full>
-    ensures written { IfOk result (IsWritten (message_bytes (told (bmp5.Collect tran code mode table sig fields.entry))) out.old out.new) }
-    ensures full { OnErr result (DoesNotFit (message_bytes (told (bmp5.Collect tran code mode table sig fields.entry))) out.old out.new) }
-    ensures in_range { InRange (told (bmp5.Collect tran code mode table sig fields.entry)) }
+    ensures written { IfOk result
+        (IsWritten (message_bytes (message_of (bmp5.Collect tran code mode table sig fields.entry))) out.old out.new) }
+    ensures full { OnErr result
+        (DoesNotFit (message_bytes (message_of (bmp5.Collect tran code mode table sig fields.entry))) out.old out.new) }
+    ensures in_range { InRange (message_of (bmp5.Collect tran code mode table sig fields.entry)) }
 {
     let asked = asked_by(mode);
     let pieces = [

@@ -3,7 +3,7 @@ ghost use Rattle.std.specs.Prelude.{◌≡◌, [], ◌∷◌, ◌<◌, ◌^◌, 
 ghost use Rattle.pb_base.specs.Put.{IsWritten, DoesNotFit};
 ghost use Rattle.pb_layout.specs.Reading.{reading, Gives};
 ghost use Rattle.pb_bmp5.specs.declared.message.Bmp5.TheVariants as bmp5;
-ghost use Rattle.pb_bmp5.specs.Message.{told, download, download_reply, InRange, message_bytes};
+ghost use Rattle.pb_bmp5.specs.Message.{message_of, download, download_reply, InRange, message_bytes};
 
 use crate::message::{Bmp5, DOWNLOAD, DOWNLOAD_REPLY};
 use crate::refusal::write_refusal;
@@ -12,7 +12,7 @@ use pb_layout::{Keys, Piece, write_pieces};
 
 #[tactic(auto, unfolding(pb_layout::specs::Reading::reading))]
 pub(crate) fn read_download<'a>(tran: u8, keys: &mut Keys<'a>) -> Result<Bmp5<'a>, MessageFault>
-    ensures { Gives told result (reading (download tran) keys.old) }
+    ensures { Gives message_of result (reading (download tran) keys.old) }
 {
     let code = keys.half()?;
     let name = keys.text()?;
@@ -41,9 +41,13 @@ pub(crate) fn write_download<'a>(
     bytes: &'a [u8],
     out: &mut [u8],
 ) -> Result<usize, Full>
-    ensures written { IfOk result (IsWritten (message_bytes (told (bmp5.Download tran code name.entry attr close offset bytes.entry))) out.old out.new) }
-    ensures full { OnErr result (DoesNotFit (message_bytes (told (bmp5.Download tran code name.entry attr close offset bytes.entry))) out.old out.new) }
-    ensures in_range { InRange (told (bmp5.Download tran code name.entry attr close offset bytes.entry)) }
+    ensures written { IfOk result
+        (IsWritten (message_bytes (message_of (bmp5.Download tran code name.entry attr close offset bytes.entry)))
+        out.old out.new) }
+    ensures full { OnErr result
+        (DoesNotFit (message_bytes (message_of (bmp5.Download tran code name.entry attr close offset bytes.entry)))
+        out.old out.new) }
+    ensures in_range { InRange (message_of (bmp5.Download tran code name.entry attr close offset bytes.entry)) }
 {
     let pieces = [
         Piece::Byte(DOWNLOAD),
@@ -63,7 +67,7 @@ pub(crate) fn read_download_reply<'a>(
     tran: u8,
     keys: &mut Keys<'a>,
 ) -> Result<Bmp5<'a>, MessageFault>
-    ensures { Gives told result (reading (download_reply tran) keys.old) }
+    ensures { Gives message_of result (reading (download_reply tran) keys.old) }
 {
     let resp = keys.byte()?;
     let offset = match resp {
@@ -79,9 +83,9 @@ pub(crate) fn write_download_reply(
     offset: u32,
     out: &mut [u8],
 ) -> Result<usize, Full>
-    ensures written { IfOk result (IsWritten (message_bytes (told (bmp5.DownloadReply tran resp offset))) out.old out.new) }
-    ensures full { OnErr result (DoesNotFit (message_bytes (told (bmp5.DownloadReply tran resp offset))) out.old out.new) }
-    ensures in_range { InRange (told (bmp5.DownloadReply tran resp offset)) }
+    ensures written { IfOk result (IsWritten (message_bytes (message_of (bmp5.DownloadReply tran resp offset))) out.old out.new) }
+    ensures full { OnErr result (DoesNotFit (message_bytes (message_of (bmp5.DownloadReply tran resp offset))) out.old out.new) }
+    ensures in_range { InRange (message_of (bmp5.DownloadReply tran resp offset)) }
 {
     if resp != 0 {
         return write_refusal(DOWNLOAD_REPLY, tran, resp, out);

@@ -3,7 +3,7 @@ ghost use Rattle.std.specs.Prelude.{◌≡◌, [], ◌∷◌, ◌<◌, ◌^◌, 
 ghost use Rattle.pb_base.specs.Put.{IsWritten, DoesNotFit};
 ghost use Rattle.pb_layout.specs.Reading.{reading, Gives};
 ghost use Rattle.pb_bmp5.specs.declared.message.Bmp5.TheVariants as bmp5;
-ghost use Rattle.pb_bmp5.specs.Message.{StatsReply, no_stats, told, stats, stats_reply, InRange, message_bytes};
+ghost use Rattle.pb_bmp5.specs.Message.{StatsReply, no_stats, message_of, stats, stats_reply, InRange, message_bytes};
 
 use crate::message::{Bmp5, STATS, STATS_REPLY};
 use crate::refusal::write_refusal;
@@ -12,16 +12,16 @@ use pb_layout::{Keys, Piece, write_pieces};
 
 #[tactic(auto, unfolding(pb_layout::specs::Reading::reading))]
 pub(crate) fn read_stats<'a>(tran: u8, keys: &mut Keys<'a>) -> Result<Bmp5<'a>, MessageFault>
-    ensures { Gives told result (reading (stats tran) keys.old) }
+    ensures { Gives message_of result (reading (stats tran) keys.old) }
 {
     let code = keys.half()?;
     Ok(Bmp5::Stats { tran, code })
 }
 
 pub(crate) fn write_stats(tran: u8, code: u16, out: &mut [u8]) -> Result<usize, Full>
-    ensures written { IfOk result (IsWritten (message_bytes (told (bmp5.Stats tran code))) out.old out.new) }
-    ensures full { OnErr result (DoesNotFit (message_bytes (told (bmp5.Stats tran code))) out.old out.new) }
-    ensures in_range { InRange (told (bmp5.Stats tran code)) }
+    ensures written { IfOk result (IsWritten (message_bytes (message_of (bmp5.Stats tran code))) out.old out.new) }
+    ensures full { OnErr result (DoesNotFit (message_bytes (message_of (bmp5.Stats tran code))) out.old out.new) }
+    ensures in_range { InRange (message_of (bmp5.Stats tran code)) }
 {
     let pieces = [Piece::Byte(STATS), Piece::Byte(tran), Piece::Half(code)];
     write_pieces(&pieces, out)
@@ -29,7 +29,7 @@ pub(crate) fn write_stats(tran: u8, code: u16, out: &mut [u8]) -> Result<usize, 
 
 #[tactic(auto, unfolding(pb_layout::specs::Reading::reading))]
 pub(crate) fn read_stats_reply<'a>(tran: u8, keys: &mut Keys<'a>) -> Result<Bmp5<'a>, MessageFault>
-    ensures { Gives told result (reading (stats_reply tran) keys.old) }
+    ensures { Gives message_of result (reading (stats_reply tran) keys.old) }
 {
     let resp = keys.byte()?;
     if resp != 0 {
@@ -60,7 +60,7 @@ pub(crate) fn read_stats_reply<'a>(tran: u8, keys: &mut Keys<'a>) -> Result<Bmp5
 }
 
 fn refused(tran: u8, resp: u8) -> Bmp5<'static>
-    ensures { told result ≡ StatsReply tran resp no_stats }
+    ensures { message_of result ≡ StatsReply tran resp no_stats }
 {
     Bmp5::StatsReply {
         tran,
@@ -91,9 +91,12 @@ pub(crate) fn write_stats_reply<'a>(
     result_text: &'a [u8],
     out: &mut [u8],
 ) -> Result<usize, Full>
-    ensures written { IfOk result (IsWritten (message_bytes (told (bmp5.StatsReply tran resp osver.entry ossig serial.entry powerup.entry state prog.entry progsig time result_text.entry))) out.old out.new) }
-    ensures full { OnErr result (DoesNotFit (message_bytes (told (bmp5.StatsReply tran resp osver.entry ossig serial.entry powerup.entry state prog.entry progsig time result_text.entry))) out.old out.new) }
-    ensures in_range { InRange (told (bmp5.StatsReply tran resp osver.entry ossig serial.entry powerup.entry state prog.entry progsig time result_text.entry)) }
+    ensures written { IfOk result (IsWritten (message_bytes (message_of (bmp5.StatsReply tran resp osver.entry ossig serial.entry
+        powerup.entry state prog.entry progsig time result_text.entry))) out.old out.new) }
+    ensures full { OnErr result (DoesNotFit (message_bytes (message_of (bmp5.StatsReply tran resp osver.entry ossig serial.entry
+        powerup.entry state prog.entry progsig time result_text.entry))) out.old out.new) }
+    ensures in_range { InRange (message_of (bmp5.StatsReply tran resp osver.entry ossig serial.entry
+        powerup.entry state prog.entry progsig time result_text.entry)) }
 {
     if resp != 0 {
         return write_refusal(STATS_REPLY, tran, resp, out);

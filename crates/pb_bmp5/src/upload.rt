@@ -3,7 +3,7 @@ ghost use Rattle.std.specs.Prelude.{◌≡◌, [], ◌∷◌, ◌<◌, ◌^◌, 
 ghost use Rattle.pb_base.specs.Put.{IsWritten, DoesNotFit};
 ghost use Rattle.pb_layout.specs.Reading.{reading, Gives};
 ghost use Rattle.pb_bmp5.specs.declared.message.Bmp5.TheVariants as bmp5;
-ghost use Rattle.pb_bmp5.specs.Message.{told, upload, upload_reply, InRange, message_bytes};
+ghost use Rattle.pb_bmp5.specs.Message.{message_of, upload, upload_reply, InRange, message_bytes};
 
 use crate::message::{Bmp5, UPLOAD, UPLOAD_REPLY};
 use crate::refusal::write_refusal;
@@ -12,7 +12,7 @@ use pb_layout::{Keys, Piece, write_pieces};
 
 #[tactic(auto, unfolding(pb_layout::specs::Reading::reading))]
 pub(crate) fn read_upload<'a>(tran: u8, keys: &mut Keys<'a>) -> Result<Bmp5<'a>, MessageFault>
-    ensures { Gives told result (reading (upload tran) keys.old) }
+    ensures { Gives message_of result (reading (upload tran) keys.old) }
 {
     let code = keys.half()?;
     let name = keys.text()?;
@@ -38,9 +38,11 @@ pub(crate) fn write_upload(
     swath: u16,
     out: &mut [u8],
 ) -> Result<usize, Full>
-    ensures written { IfOk result (IsWritten (message_bytes (told (bmp5.Upload tran code name.entry close offset swath))) out.old out.new) }
-    ensures full { OnErr result (DoesNotFit (message_bytes (told (bmp5.Upload tran code name.entry close offset swath))) out.old out.new) }
-    ensures in_range { InRange (told (bmp5.Upload tran code name.entry close offset swath)) }
+    ensures written { IfOk result
+        (IsWritten (message_bytes (message_of (bmp5.Upload tran code name.entry close offset swath))) out.old out.new) }
+    ensures full { OnErr result
+        (DoesNotFit (message_bytes (message_of (bmp5.Upload tran code name.entry close offset swath))) out.old out.new) }
+    ensures in_range { InRange (message_of (bmp5.Upload tran code name.entry close offset swath)) }
 {
     let pieces = [
         Piece::Byte(UPLOAD),
@@ -56,7 +58,7 @@ pub(crate) fn write_upload(
 
 #[tactic(auto, unfolding(pb_layout::specs::Reading::reading))]
 pub(crate) fn read_upload_reply<'a>(tran: u8, keys: &mut Keys<'a>) -> Result<Bmp5<'a>, MessageFault>
-    ensures { Gives told result (reading (upload_reply tran) keys.old) }
+    ensures { Gives message_of result (reading (upload_reply tran) keys.old) }
 {
     let resp = keys.byte()?;
     if resp != 0 {
@@ -84,9 +86,11 @@ pub(crate) fn write_upload_reply(
     bytes: &[u8],
     out: &mut [u8],
 ) -> Result<usize, Full>
-    ensures written { IfOk result (IsWritten (message_bytes (told (bmp5.UploadReply tran resp offset bytes.entry))) out.old out.new) }
-    ensures full { OnErr result (DoesNotFit (message_bytes (told (bmp5.UploadReply tran resp offset bytes.entry))) out.old out.new) }
-    ensures in_range { InRange (told (bmp5.UploadReply tran resp offset bytes.entry)) }
+    ensures written { IfOk result
+        (IsWritten (message_bytes (message_of (bmp5.UploadReply tran resp offset bytes.entry))) out.old out.new) }
+    ensures full { OnErr result
+        (DoesNotFit (message_bytes (message_of (bmp5.UploadReply tran resp offset bytes.entry))) out.old out.new) }
+    ensures in_range { InRange (message_of (bmp5.UploadReply tran resp offset bytes.entry)) }
 {
     if resp != 0 {
         return write_refusal(UPLOAD_REPLY, tran, resp, out);

@@ -3,7 +3,7 @@ ghost use Rattle.std.specs.Prelude.{◌≡◌, [], ◌∷◌, ◌<◌, ◌^◌, 
 ghost use Rattle.pb_base.specs.Put.{IsWritten, DoesNotFit};
 ghost use Rattle.pb_layout.specs.Reading.{reading, Gives};
 ghost use Rattle.pb_bmp5.specs.declared.message.Bmp5.TheVariants as bmp5;
-ghost use Rattle.pb_bmp5.specs.Message.{told, wait, InRange, message_bytes};
+ghost use Rattle.pb_bmp5.specs.Message.{message_of, wait, InRange, message_bytes};
 
 use crate::message::{Bmp5, WAIT};
 use pb_base::{Full, MessageFault};
@@ -11,7 +11,7 @@ use pb_layout::{Keys, Piece, write_pieces};
 
 #[tactic(auto, unfolding(pb_layout::specs::Reading::reading))]
 pub(crate) fn read_wait<'a>(tran: u8, keys: &mut Keys<'a>) -> Result<Bmp5<'a>, MessageFault>
-    ensures { Gives told result (reading (wait tran) keys.old) }
+    ensures { Gives message_of result (reading (wait tran) keys.old) }
 {
     let kind = keys.byte()?;
     let seconds = keys.half()?;
@@ -23,9 +23,9 @@ pub(crate) fn read_wait<'a>(tran: u8, keys: &mut Keys<'a>) -> Result<Bmp5<'a>, M
 }
 
 pub(crate) fn write_wait(tran: u8, kind: u8, seconds: u16, out: &mut [u8]) -> Result<usize, Full>
-    ensures written { IfOk result (IsWritten (message_bytes (told (bmp5.Wait tran kind seconds))) out.old out.new) }
-    ensures full { OnErr result (DoesNotFit (message_bytes (told (bmp5.Wait tran kind seconds))) out.old out.new) }
-    ensures in_range { InRange (told (bmp5.Wait tran kind seconds)) }
+    ensures written { IfOk result (IsWritten (message_bytes (message_of (bmp5.Wait tran kind seconds))) out.old out.new) }
+    ensures full { OnErr result (DoesNotFit (message_bytes (message_of (bmp5.Wait tran kind seconds))) out.old out.new) }
+    ensures in_range { InRange (message_of (bmp5.Wait tran kind seconds)) }
 {
     let pieces = [
         Piece::Byte(WAIT),

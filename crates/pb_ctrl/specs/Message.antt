@@ -1,8 +1,10 @@
 -- The PakCtrl messages, their layouts, and the values of their keys.
-use Rattle.std.specs.Prelude.{ℕ, List, [], ◌∷◌, ◌==◌, if◌then◌else◌}
+use Rattle.std.specs.Prelude.{ℕ, List, [], ◌∷◌, ◌==◌, Result, if◌then◌else◌}
+use Rattle.pb_base.specs.declared.message.MessageFault.{MessageFault}
 use Rattle.pb_base.specs.declared.message.MessageFault.TheVariants.{UnknownType}
 use Rattle.pb_layout.specs.Kind.{Byte, Half, Split, AtMost, Settings}
-use Rattle.pb_layout.specs.Layout.{MessageLayout, Done, Stop, ◌>>=◌, Values, AllFit, MayEnd, IsAmong, IsValid, ReadsAs, bytes_of}
+use Rattle.pb_layout.specs.Layout.{MessageLayout, Done, Stop, ◌>>=◌, Values, AllFit, MayEnd, IsAmong, IsValid, HasBytes, ReadsAs, bytes_of}
+use Rattle.pb_layout.specs.Typed.{IsRead}
 use Rattle.pb_ctrl.specs.declared.message.Ctrl.{Ctrl}
 use Rattle.pb_ctrl.specs.declared.message.Ctrl.TheVariants as ctrl
 
@@ -32,16 +34,17 @@ pub data Message : Type 0 where
   -- transaction, outcome, number
   SetSettingsReply : ℕ → ℕ → ℕ → Message
 
-abbrev pub told : Ctrl → Message
-told (ctrl.Hello tran router metric verify) = Hello tran router metric verify
-told (ctrl.HelloReply tran router metric verify) = HelloReply tran router metric verify
-told (ctrl.Bye tran) = Bye tran
-told (ctrl.HelloRequest tran) = HelloRequest tran
-told (ctrl.Failure tran err proto dst hops src carried) = Failure tran (record { err = err; proto = proto; dst = dst; hops = hops; src = src; carried = carried.now })
-told (ctrl.GetSettings tran code first) = GetSettings tran code first
-told (ctrl.GetSettingsReply tran outcome more settings) = GetSettingsReply tran outcome more settings.now
-told (ctrl.SetSettings tran code settings) = SetSettings tran code settings.now
-told (ctrl.SetSettingsReply tran outcome number) = SetSettingsReply tran outcome number
+abbrev pub message_of : Ctrl → Message
+message_of (ctrl.Hello tran router metric verify) = Hello tran router metric verify
+message_of (ctrl.HelloReply tran router metric verify) = HelloReply tran router metric verify
+message_of (ctrl.Bye tran) = Bye tran
+message_of (ctrl.HelloRequest tran) = HelloRequest tran
+message_of (ctrl.Failure tran err proto dst hops src carried) =
+    Failure tran (record { err = err; proto = proto; dst = dst; hops = hops; src = src; carried = carried.now })
+message_of (ctrl.GetSettings tran code first) = GetSettings tran code first
+message_of (ctrl.GetSettingsReply tran outcome more settings) = GetSettingsReply tran outcome more settings.now
+message_of (ctrl.SetSettings tran code settings) = SetSettings tran code settings.now
+message_of (ctrl.SetSettingsReply tran outcome number) = SetSettingsReply tran outcome number
 
 -- ---- layouts: what comes after the type and the transaction
 
@@ -130,13 +133,22 @@ keys (SetSettingsReply tran outcome number) = (0x90, (tran, (outcome, (number, t
 abbrev pub Valid : Message → Type 0
 Valid m = IsValid layout keys m
 
--- the bytes of the message
+-- The values of a message's keys, one after another. They are the bytes of a message where it is valid and its numbers
+-- lie in the ranges of their types.
 abbrev pub message_bytes : Message → List ℕ
 message_bytes m = bytes_of layout keys m
+
+-- the bytes of a message, which is valid
+abbrev pub MessageBytes : Message → List ℕ → Type 0
+MessageBytes m bytes = HasBytes layout keys m bytes
 
 -- The bytes read as the message: its own, and then any where its layout has an end.
 abbrev pub MessageReads : Message → List ℕ → Type 0
 MessageReads m bytes = ReadsAs layout keys m bytes
+
+-- what a reader answers to the bytes
+abbrev pub MessageIsRead : List ℕ → Result Ctrl MessageFault → Type 0
+MessageIsRead bytes result = IsRead layout keys types message_of bytes result
 
 -- the message's numbers lie in the ranges of their types
 abbrev pub InRange : Message → Type 0

@@ -2,7 +2,7 @@
 ghost use Rattle.std.specs.Prelude.{◌≡◌, ◌<◌, IfOk, OnErr};
 ghost use Rattle.pb_base.specs.Put.{IsWritten, DoesNotFit};
 ghost use Rattle.pb_layout.specs.Reading.{reading, Gives};
-ghost use Rattle.pb_ctrl.specs.Message.{told, failure, InRange, message_bytes};
+ghost use Rattle.pb_ctrl.specs.Message.{message_of, failure, InRange, message_bytes};
 ghost use Rattle.pb_ctrl.specs.declared.message.Ctrl.TheVariants as ctrl;
 
 use crate::message::{Ctrl, FAILURE};
@@ -14,7 +14,7 @@ const CARRIED_MAX: usize = 8;
 
 #[tactic(auto, unfolding(pb_layout::specs::Reading::reading))]
 pub(crate) fn read_failure<'a>(tran: u8, keys: &mut Keys<'a>) -> Result<Ctrl<'a>, MessageFault>
-    ensures { Gives told result (reading (failure tran) keys.old) }
+    ensures { Gives message_of result (reading (failure tran) keys.old) }
 {
     let err = keys.byte()?;
     let (proto, dst) = keys.split()?;
@@ -41,9 +41,13 @@ pub(crate) fn write_failure(
 ) -> Result<usize, Full>
     requires to { (to.0 < 16) × (to.1 < 4096) }
     requires from { (from.0 < 16) × (from.1 < 4096) }
-    ensures written { IfOk result (IsWritten (message_bytes (told (ctrl.Failure tran err to.0 to.1 from.0 from.1 carried.entry))) out.old out.new) }
-    ensures full { OnErr result (DoesNotFit (message_bytes (told (ctrl.Failure tran err to.0 to.1 from.0 from.1 carried.entry))) out.old out.new) }
-    ensures in_range { InRange (told (ctrl.Failure tran err to.0 to.1 from.0 from.1 carried.entry)) }
+    ensures written { IfOk result
+        (IsWritten (message_bytes (message_of (ctrl.Failure tran err to.0 to.1 from.0 from.1 carried.entry)))
+        out.old out.new) }
+    ensures full { OnErr result
+        (DoesNotFit (message_bytes (message_of (ctrl.Failure tran err to.0 to.1 from.0 from.1 carried.entry)))
+        out.old out.new) }
+    ensures in_range { InRange (message_of (ctrl.Failure tran err to.0 to.1 from.0 from.1 carried.entry)) }
 {
     let pieces = [
         Piece::Byte(FAILURE),

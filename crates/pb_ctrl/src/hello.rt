@@ -3,7 +3,7 @@ ghost use Rattle.std.specs.Prelude.{◌≡◌, ℕ, ◌<◌, ◌^◌, [], ◌∷
 ghost use Rattle.std.specs.Int.{w16, to_be_bytes};
 ghost use Rattle.pb_base.specs.Put.{IsWritten, DoesNotFit};
 ghost use Rattle.pb_layout.specs.Reading.{reading, Gives};
-ghost use Rattle.pb_ctrl.specs.Message.{Message, Hello, HelloReply, told, greeting};
+ghost use Rattle.pb_ctrl.specs.Message.{Message, Hello, HelloReply, message_of, greeting};
 
 use crate::message::Ctrl;
 use pb_base::{Full, MessageFault};
@@ -18,7 +18,7 @@ pub(crate) struct Greeting {
 }
 
 pub(crate) fn read_hello<'a>(tran: u8, keys: &mut Keys<'a>) -> Result<Ctrl<'a>, MessageFault>
-    ensures { Gives told result (reading (greeting (Hello tran)) keys.old) }
+    ensures { Gives message_of result (reading (greeting (Hello tran)) keys.old) }
 {
     match read_greeting(keys) {
         Ok(
@@ -38,7 +38,7 @@ pub(crate) fn read_hello<'a>(tran: u8, keys: &mut Keys<'a>) -> Result<Ctrl<'a>, 
 }
 
 pub(crate) fn read_hello_reply<'a>(tran: u8, keys: &mut Keys<'a>) -> Result<Ctrl<'a>, MessageFault>
-    ensures { Gives told result (reading (greeting (HelloReply tran)) keys.old) }
+    ensures { Gives message_of result (reading (greeting (HelloReply tran)) keys.old) }
 {
     match read_greeting(keys) {
         Ok(
@@ -59,7 +59,8 @@ pub(crate) fn read_hello_reply<'a>(tran: u8, keys: &mut Keys<'a>) -> Result<Ctrl
 
 #[tactic(auto, unfolding(pb_layout::specs::Reading::reading))]
 fn read_greeting(keys: &mut Keys) -> Result<Greeting, MessageFault>
-    ensures { (message : ℕ → ℕ → ℕ → Message) → Gives (λ g. message g.router g.metric g.verify) result (reading (greeting message) keys.old) }
+    ensures { (message : ℕ → ℕ → ℕ → Message)
+        → Gives (λ g. message g.router g.metric g.verify) result (reading (greeting message) keys.old) }
 {
     let router = keys.byte()?;
     let metric = keys.byte()?;
@@ -78,8 +79,12 @@ pub(crate) fn write_greeting(
     greeting: Greeting,
     out: &mut [u8],
 ) -> Result<usize, Full>
-    ensures written { IfOk result (IsWritten (kind ∷ tran ∷ greeting.router ∷ greeting.metric ∷ to_be_bytes w16 greeting.verify ++ []) out.old out.new) }
-    ensures full { OnErr result (DoesNotFit (kind ∷ tran ∷ greeting.router ∷ greeting.metric ∷ to_be_bytes w16 greeting.verify ++ []) out.old out.new) }
+    ensures written { IfOk result
+        (IsWritten (kind ∷ tran ∷ greeting.router ∷ greeting.metric ∷ to_be_bytes w16 greeting.verify ++ [])
+        out.old out.new) }
+    ensures full { OnErr result
+        (DoesNotFit (kind ∷ tran ∷ greeting.router ∷ greeting.metric ∷ to_be_bytes w16 greeting.verify ++ [])
+        out.old out.new) }
     ensures in_range { (tran < 2 ^ 8) × (greeting.router < 2 ^ 8) × (greeting.metric < 2 ^ 8) × (greeting.verify < 2 ^ 16) }
 {
     let pieces = [

@@ -1,13 +1,15 @@
 //! Laws of the messages, as functions with an empty body.
 ghost use Rattle.std.specs.Prelude.{◌≡◌, ℕ, List, [], ◌∷◌, ◌++◌};
-ghost use Rattle.pb_ctrl.specs.Message.{Message, Hello, HelloReply, Bye, HelloRequest, Failure, GetSettings, GetSettingsReply, SetSettings, SetSettingsReply, Valid, InRange, MayStandBehind, message_bytes, MessageReads};
+ghost use Rattle.pb_ctrl.specs.Message.{Message, Hello, HelloReply, Bye, HelloRequest, Failure, GetSettings, GetSettingsReply, SetSettings, SetSettingsReply, MayStandBehind, MessageBytes, message_bytes, MessageReads};
 
 /// A message that was written reads as itself, alone and before whatever may follow it. What reads as a message is its
 /// bytes and what may follow them, and nothing reads as two messages.
 pub fn written_message_is_read()
-    ensures alone { (m : Message) → Valid m → InRange m → MessageReads m (message_bytes m) }
-    ensures again { (m : Message) (rest : List ℕ) → Valid m → InRange m → MayStandBehind m rest → MessageReads m (message_bytes m ++ rest) }
-    ensures parts { (m : Message) (bytes : List ℕ) → MessageReads m bytes → (rest : List ℕ) × (bytes ≡ message_bytes m ++ rest) × MayStandBehind m rest × Valid m × InRange m }
+    ensures alone { (m : Message) (bytes : List ℕ) → MessageBytes m bytes → MessageReads m bytes }
+    ensures again { (m : Message) (bytes rest : List ℕ) → MessageBytes m bytes → MayStandBehind m rest
+        → MessageReads m (bytes ++ rest) }
+    ensures parts { (m : Message) (bytes : List ℕ) → MessageReads m bytes
+        → (own rest : List ℕ) × (bytes ≡ own ++ rest) × MessageBytes m own × MayStandBehind m rest }
     ensures one_message { (m other : Message) (bytes : List ℕ) → MessageReads m bytes → MessageReads other bytes → m ≡ other }
 {}
 
@@ -17,10 +19,13 @@ pub fn worked_messages()
     ensures hello_reply { message_bytes (HelloReply 1 2 3 0x0405) ≡ 0x89 ∷ 1 ∷ 2 ∷ 3 ∷ 4 ∷ 5 ∷ [] }
     ensures bye { message_bytes (Bye 1) ≡ 0x0D ∷ 1 ∷ [] }
     ensures hello_request { message_bytes (HelloRequest 1) ≡ 0x0E ∷ 1 ∷ [] }
-    ensures failure { message_bytes (Failure 1 (record { err = 2; proto = 3; dst = 0x456; hops = 7; src = 0x89A; carried = 11 ∷ 12 ∷ [] }))
+    ensures failure { message_bytes
+        (Failure 1 (record { err = 2; proto = 3; dst = 0x456; hops = 7; src = 0x89A; carried = 11 ∷ 12 ∷ [] }))
         ≡ 0x81 ∷ 1 ∷ 2 ∷ 0x34 ∷ 0x56 ∷ 0x78 ∷ 0x9A ∷ 11 ∷ 12 ∷ [] }
     ensures get_settings { message_bytes (GetSettings 1 0x0203 0x0405) ≡ 0x0F ∷ 1 ∷ 2 ∷ 3 ∷ 4 ∷ 5 ∷ [] }
-    ensures get_settings_reply { message_bytes (GetSettingsReply 1 2 3 (0 ∷ 4 ∷ 0 ∷ 1 ∷ 5 ∷ [])) ≡ 0x8F ∷ 1 ∷ 2 ∷ 3 ∷ 0 ∷ 4 ∷ 0 ∷ 1 ∷ 5 ∷ [] }
-    ensures set_settings { message_bytes (SetSettings 1 0x0203 (0 ∷ 4 ∷ 0 ∷ 1 ∷ 5 ∷ [])) ≡ 0x10 ∷ 1 ∷ 2 ∷ 3 ∷ 0 ∷ 4 ∷ 0 ∷ 1 ∷ 5 ∷ [] }
+    ensures get_settings_reply { message_bytes
+        (GetSettingsReply 1 2 3 (0 ∷ 4 ∷ 0 ∷ 1 ∷ 5 ∷ [])) ≡ 0x8F ∷ 1 ∷ 2 ∷ 3 ∷ 0 ∷ 4 ∷ 0 ∷ 1 ∷ 5 ∷ [] }
+    ensures set_settings { message_bytes
+        (SetSettings 1 0x0203 (0 ∷ 4 ∷ 0 ∷ 1 ∷ 5 ∷ [])) ≡ 0x10 ∷ 1 ∷ 2 ∷ 3 ∷ 0 ∷ 4 ∷ 0 ∷ 1 ∷ 5 ∷ [] }
     ensures set_settings_reply { message_bytes (SetSettingsReply 1 2 0x0304) ≡ 0x90 ∷ 1 ∷ 2 ∷ 3 ∷ 4 ∷ [] }
 {}

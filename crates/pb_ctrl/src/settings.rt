@@ -2,7 +2,7 @@
 ghost use Rattle.std.specs.Prelude.{◌≡◌, IfOk, OnErr};
 ghost use Rattle.pb_base.specs.Put.{IsWritten, DoesNotFit};
 ghost use Rattle.pb_layout.specs.Reading.{reading, Gives};
-ghost use Rattle.pb_ctrl.specs.Message.{GetSettings, GetSettingsReply, SetSettings, SetSettingsReply, told, get_settings, get_settings_reply, set_settings, set_settings_reply, InRange, message_bytes};
+ghost use Rattle.pb_ctrl.specs.Message.{GetSettings, GetSettingsReply, SetSettings, SetSettingsReply, message_of, get_settings, get_settings_reply, set_settings, set_settings_reply, InRange, message_bytes};
 
 use crate::message::{Ctrl, GET_SETTINGS, GET_SETTINGS_REPLY, SET_SETTINGS, SET_SETTINGS_REPLY};
 use pb_base::{Full, MessageFault};
@@ -10,7 +10,7 @@ use pb_layout::{Keys, Piece, write_pieces};
 
 #[tactic(auto, unfolding(pb_layout::specs::Reading::reading))]
 pub(crate) fn read_get_settings<'a>(tran: u8, keys: &mut Keys<'a>) -> Result<Ctrl<'a>, MessageFault>
-    ensures { Gives told result (reading (get_settings tran) keys.old) }
+    ensures { Gives message_of result (reading (get_settings tran) keys.old) }
 {
     let code = keys.half()?;
     let first = keys.half()?;
@@ -41,7 +41,7 @@ pub(crate) fn read_get_settings_reply<'a>(
     tran: u8,
     keys: &mut Keys<'a>,
 ) -> Result<Ctrl<'a>, MessageFault>
-    ensures { Gives told result (reading (get_settings_reply tran) keys.old) }
+    ensures { Gives message_of result (reading (get_settings_reply tran) keys.old) }
 {
     let outcome = keys.byte()?;
     let more = keys.byte()?;
@@ -77,7 +77,7 @@ pub(crate) fn write_get_settings_reply(
 
 #[tactic(auto, unfolding(pb_layout::specs::Reading::reading))]
 pub(crate) fn read_set_settings<'a>(tran: u8, keys: &mut Keys<'a>) -> Result<Ctrl<'a>, MessageFault>
-    ensures { Gives told result (reading (set_settings tran) keys.old) }
+    ensures { Gives message_of result (reading (set_settings tran) keys.old) }
 {
     let code = keys.half()?;
     let settings = keys.settings()?;
@@ -112,7 +112,7 @@ pub(crate) fn read_set_settings_reply<'a>(
     tran: u8,
     keys: &mut Keys<'a>,
 ) -> Result<Ctrl<'a>, MessageFault>
-    ensures { Gives told result (reading (set_settings_reply tran) keys.old) }
+    ensures { Gives message_of result (reading (set_settings_reply tran) keys.old) }
 {
     let outcome = keys.byte()?;
     let number = keys.half()?;

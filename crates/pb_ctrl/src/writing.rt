@@ -1,7 +1,7 @@
 //! Writes a message.
 ghost use Rattle.std.specs.Prelude.{IfOk, OnErr};
 ghost use Rattle.pb_base.specs.Put.{IsWritten, DoesNotFit};
-ghost use Rattle.pb_ctrl.specs.Message.{told, Valid, InRange, message_bytes};
+ghost use Rattle.pb_ctrl.specs.Message.{message_of, Valid, InRange, message_bytes};
 
 use crate::failure::write_failure;
 use crate::hello::{Greeting, write_bare, write_greeting};
@@ -14,11 +14,11 @@ use pb_base::Full;
 /// Writes a PakCtrl message to the front of `out`, and answers how many bytes it has. Where it doesn't fit nothing is
 /// written.
 pub fn write(message: &Ctrl, out: &mut [u8]) -> Result<usize, Full>
-    requires { Valid (told message.now) }
-    ensures written { IfOk result (IsWritten (message_bytes (told message.now)) out.old out.new) }
-    ensures full { OnErr result (DoesNotFit (message_bytes (told message.now)) out.old out.new) }
+    requires { Valid (message_of message.now) }
+    ensures written { IfOk result (IsWritten (message_bytes (message_of message.now)) out.old out.new) }
+    ensures full { OnErr result (DoesNotFit (message_bytes (message_of message.now)) out.old out.new) }
     // So what was written reads as this message.
-    ensures in_range { InRange (told message.now) }
+    ensures in_range { InRange (message_of message.now) }
 {
     match *message {
         Ctrl::Hello {

@@ -5,7 +5,7 @@ use Rattle.std.proofs.lemmas.List.{append-nil, take-append-drop, length-take-le}
 use Rattle.pb_frame.specs.declared.why.Why.{Why}
 use Rattle.pb_frame.specs.declared.why.Why.TheVariants.{Quote, Long, Short, Signature}
 use Rattle.pb_frame.specs.Signature.{start, sig}
-use Rattle.pb_frame.specs.Framing.{quote, Quoted, quoted, Piece, Unquoted, unquoted, content_of, Outcome, Whole, Faulty, ended_outcome, is_broken, outcome}
+use Rattle.pb_frame.specs.Framing.{quote, Quoted, quoted, Piece, Unquoted, unquoted, content_of, Finding, Whole, Faulty, ended_outcome, is_broken, outcome}
 use Rattle.pb_frame.specs.Hearing.{HasNoFlag}
 use Rattle.pb_frame.specs.Faults.{IsWrong, HasWrongQuote, IsTooLong, IsTooShort, IsBadlySigned, HasFault, IsHeardBefore}
 use Rattle.pb_frame.proofs.QuotedLemmas.{Quoted-text, Quoted-quoted, quoted-nil, quoted-append, length-quoted, unquoted-quoted, unquoted-whole, unquoted-wrong}
@@ -149,7 +149,7 @@ first-short piece at f =
     record {
       first_at = piece.at + length piece.text;
       first_why = Short;
-      heard = ended-heard piece f.body f.ended f.stands (omega arith) ∙ ap (λ (o : Outcome). Some o) (cond-true _ _ _ (small-passes (length f.body) f.small f.not_six));
+      heard = ended-heard piece f.body f.ended f.stands (omega arith) ∙ ap (λ (o : Finding). Some o) (cond-true _ _ _ (small-passes (length f.body) f.small f.not_six));
       earlier = omega (arith, f.place);
       ranked = λ _. omega arith;
     }
@@ -172,14 +172,14 @@ first-signature piece at f =
         | inl short ↦ record {
           first_at = piece.at + length piece.text;
           first_why = Short;
-          heard = ended-heard piece f.body f.ended f.stands ge ∙ ap (λ (o : Outcome). Some o) (cond-true _ _ _ short);
+          heard = ended-heard piece f.body f.ended f.stands ge ∙ ap (λ (o : Finding). Some o) (cond-true _ _ _ short);
           earlier = omega (arith, f.place);
           ranked = λ _. omega arith;
         }
         | inr sized ↦ record {
           first_at = piece.at + length piece.text;
           first_why = Signature;
-          heard = ended-heard piece f.body f.ended f.stands ge ∙ ap (λ (o : Outcome). Some o) (cond-false _ _ _ sized ∙ cond-false _ _ _ (ne_eqb (sig f.body start) 0 f.bad));
+          heard = ended-heard piece f.body f.ended f.stands ge ∙ ap (λ (o : Finding). Some o) (cond-false _ _ _ sized ∙ cond-false _ _ _ (ne_eqb (sig f.body start) 0 f.bad));
           earlier = omega (arith, f.place);
           ranked = λ _. omega arith;
         }

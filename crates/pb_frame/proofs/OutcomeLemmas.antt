@@ -3,12 +3,12 @@ use Rattle.std.proofs.Common.{◌≡◌, ◌≢◌, ℕ, ◌+◌, ◌-◌, ◌*�
 use Rattle.std.proofs.lemmas.Bool.{lt-ltb, le-ltb, cond-true, cond-false}
 use Rattle.std.proofs.lemmas.List.{take_at}
 use Rattle.pb_frame.specs.declared.why.Why.TheVariants.{Quote, Long}
-use Rattle.pb_frame.specs.Framing.{quote, quoted, Unquoted, unquoted, Outcome, Faulty, ended_outcome, is_broken, outcome}
+use Rattle.pb_frame.specs.Framing.{quote, quoted, Unquoted, unquoted, Finding, Faulty, ended_outcome, is_broken, outcome}
 use Rattle.pb_frame.specs.Hearing.{IsSettled}
 use Rattle.pb_frame.proofs.QuotedLemmas.{unquoted-quoted, unquoted-whole, unquoted-cut_off, unquoted-wrong}
 
 -- the outcome over what was read of the text
-abbrev pub read_outcome : ℕ → List ℕ → Bool → Unquoted → Option Outcome
+abbrev pub read_outcome : ℕ → List ℕ → Bool → Unquoted → Option Finding
 read_outcome at text ended u =
     cond (Rattle.std.proofs.Common.ltb 1010 (length u.body)) (Some (Faulty (at + length (quoted (take 1011 u.body)) - 1) Long))
     (cond (is_broken u.rest ended) (Some (Faulty (at + length (quoted u.body) + 1) Quote))

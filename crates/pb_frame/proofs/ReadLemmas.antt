@@ -5,7 +5,7 @@ use Rattle.std.proofs.lemmas.List.{append-nil}
 use Rattle.std.proofs.lemmas.List.Elements.{All-head, All-tail}
 use Rattle.pb_frame.specs.declared.why.Why.TheVariants.{Quote, Long, Short, Signature}
 use Rattle.pb_frame.specs.Signature.{start, sig}
-use Rattle.pb_frame.specs.Framing.{flag, quote, Quoted, quoted, quoted_byte, Piece, Unquoted, with_byte, unquoted, IsBodySize, IsGoodBody, IsGood, content_of, Outcome, Whole, Faulty, ended_outcome, is_broken, outcome}
+use Rattle.pb_frame.specs.Framing.{flag, quote, Quoted, quoted, quoted_byte, Piece, Unquoted, with_byte, unquoted, IsBodySize, IsGoodBody, IsGood, content_of, Finding, Whole, Faulty, ended_outcome, is_broken, outcome}
 use Rattle.pb_frame.specs.Hearing.{HasNoFlag}
 use Rattle.pb_frame.proofs.QuotedLemmas.{Quoted-text, Quoted-quoted, quoted-nil, quoted-cons, quoted_byte-plain, unquoted-byte, unquoted-whole, unquoted-wrong}
 use Rattle.pb_frame.proofs.OutcomeLemmas.{outcome-read, outcome-ended}
@@ -69,14 +69,14 @@ read-text (x ∷ y ∷ text) clear =
     ]
 
 -- which test decided an outcome
-pub three : (a b c : Bool) (l q e o : Outcome) → cond a (Some l) (cond b (Some q) (cond c (Some e) None)) ≡ Some o
+pub three : (a b c : Bool) (l q e o : Finding) → cond a (Some l) (cond b (Some q) (cond c (Some e) None)) ≡ Some o
     → ((a ≡ true) × (l ≡ o)) ⊎ (((a ≡ false) × (b ≡ true) × (q ≡ o)) ⊎ ((a ≡ false) × (b ≡ false) × (c ≡ true) × (e ≡ o)))
 three true b c l q e o is = inl (refl, cc)
 three false true c l q e o is = inr (inl (refl, refl, cc))
 three false false true l q e o is = inr (inr (refl, refl, refl, cc))
 three false false false l q e o is = cc
 
-pub two : (s g : Bool) (f w b o : Outcome) → cond s f (cond g w b) ≡ o
+pub two : (s g : Bool) (f w b o : Finding) → cond s f (cond g w b) ≡ o
     → ((s ≡ true) × (f ≡ o)) ⊎ (((s ≡ false) × (g ≡ true) × (w ≡ o)) ⊎ ((s ≡ false) × (g ≡ false) × (b ≡ o)))
 two true g f w b o is = inl (refl, is)
 two false true f w b o is = inr (inl (refl, refl, is))
@@ -121,7 +121,7 @@ good-outcome piece body ended good =
     ap (λ e. outcome (record { at = piece.at; text = piece.text; ended = e })) ended
     ∙ ap (λ t. outcome (record { at = piece.at; text = t; ended = true })) (Quoted-text good.stands)
     ∙ outcome-ended piece.at body (size-room (length body) good.size)
-    ∙ ap (λ (o : Outcome). Some o) (cond-false _ _ _ (size-passes (length body) good.size) ∙ cond-true _ _ _ (eq-eqb (sig body start) 0 good.signed))
+    ∙ ap (λ (o : Finding). Some o) (cond-false _ _ _ (size-passes (length body) good.size) ∙ cond-true _ _ _ (eq-eqb (sig body start) 0 good.signed))
 
 -- what is heard as a content
 pub whole-good : (piece : Piece) (content : List ℕ) → HasNoFlag piece.text → outcome piece ≡ Some (Whole content) → (piece.ended ≡ true) × ((good : IsGood piece.text) × (content ≡ content_of good.0))

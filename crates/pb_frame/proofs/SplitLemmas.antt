@@ -5,7 +5,7 @@ use Rattle.std.proofs.lemmas.Bool.{ne_eqb, cond-false}
 use Rattle.std.proofs.lemmas.List.{append-nil}
 use Rattle.std.proofs.lemmas.List.Elements.{All-nil, All-head, All-tail}
 use Rattle.pb_frame.specs.declared.why.Why.TheVariants.{Quote, Long}
-use Rattle.pb_frame.specs.Framing.{flag, Cut, cut, Piece, piece_of, has_next, placed, pieces, Outcome, outcome, Verdict, verdict_of, verdicts, is_open, unfinished, unquoted, quoted, Faulty, ended_outcome, is_broken}
+use Rattle.pb_frame.specs.Framing.{flag, Cut, cut, Piece, piece_of, has_next, placed, pieces, Finding, outcome, Verdict, verdict_of, verdicts, is_open, unfinished, unquoted, quoted, Faulty, ended_outcome, is_broken}
 use Rattle.pb_frame.specs.Hearing.{HasNoFlag}
 
 abbrev joined : Cut → Cut → Cut
@@ -116,7 +116,7 @@ pub judged-nil : (at : ℕ) (ended : Bool) → judged at [] ended ≡ []
 unfolding judged
 judged-nil at ended = refl
 
-pub judged-some : (at : ℕ) (text : List ℕ) (ended : Bool) (o : Outcome) → 0 < length text → outcome (record { at = at; text = text; ended = ended }) ≡ Some o → judged at text ended ≡ record { piece = at; outcome = o } ∷ []
+pub judged-some : (at : ℕ) (text : List ℕ) (ended : Bool) (o : Finding) → 0 < length text → outcome (record { at = at; text = text; ended = ended }) ≡ Some o → judged at text ended ≡ record { piece = at; outcome = o } ∷ []
 unfolding judged
 judged-some at [] ended o some e = absurd (omega arith)
 judged-some at (x ∷ text) ended o some e = rw e refl
@@ -126,7 +126,7 @@ unfolding judged
 judged-none at [] ended e = refl
 judged-none at (x ∷ text) ended e = rw e refl
 
-always_some : (a b : Bool) (x y z : Outcome) → is_none (cond a (Some x) (cond b (Some y) (Some z))) ≡ false
+always_some : (a b : Bool) (x y z : Finding) → is_none (cond a (Some x) (cond b (Some y) (Some z))) ≡ false
 always_some true b x y z = refl
 always_some false true x y z = refl
 always_some false false x y z = refl
@@ -164,7 +164,7 @@ pub unfinished-none : (text : List ℕ) → HasNoFlag text → unfinished text �
 unfolding unfinished pieces placed
 unfinished-none text h = ap (λ (c : Cut). option_map (λ (p : Piece). p.at) (find is_open (placed (length c.head + 1) c.texts))) (cut-text text h)
 
-find_piece-some : (at : ℕ) (text : List ℕ) (o : Outcome) → outcome (record { at = at; text = text; ended = false }) ≡ Some o → find is_open (piece_of at text false) ≡ None
+find_piece-some : (at : ℕ) (text : List ℕ) (o : Finding) → outcome (record { at = at; text = text; ended = false }) ≡ Some o → find is_open (piece_of at text false) ≡ None
 find_piece-some at [] o e = refl
 find_piece-some at (x ∷ text) o e = rw e refl
 
@@ -172,7 +172,7 @@ find_piece-none : (at : ℕ) (text : List ℕ) → 0 < length text → outcome (
 find_piece-none at [] some e = absurd (omega arith)
 find_piece-none at (x ∷ text) some e = rw e refl
 
-pub unfinished-judged : (front text : List ℕ) (o : Outcome) → HasNoFlag text → outcome (record { at = length front + 1; text = text; ended = false }) ≡ Some o → unfinished (front ++ flag ∷ text) ≡ None
+pub unfinished-judged : (front text : List ℕ) (o : Finding) → HasNoFlag text → outcome (record { at = length front + 1; text = text; ended = false }) ≡ Some o → unfinished (front ++ flag ∷ text) ≡ None
 unfinished-judged front text o h e = unfinished-open front text h ∙ ap (λ o. option_map (λ (p : Piece). p.at) o) (find_piece-some (length front + 1) text o e)
 
 pub unfinished-within : (front text : List ℕ) → HasNoFlag text → 0 < length text → outcome (record { at = length front + 1; text = text; ended = false }) ≡ None → unfinished (front ++ flag ∷ text) ≡ Some (length front + 1)

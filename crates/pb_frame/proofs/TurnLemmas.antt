@@ -9,7 +9,7 @@ use Rattle.pb_frame.specs.declared.state.State.{State}
 use Rattle.pb_frame.specs.declared.state.State.TheVariants.{Skipping, Between, Whole as WholeBody, Plain, Quoting}
 use Rattle.pb_frame.specs.declared.why.Why.TheVariants.{Quote, Long, Short, Signature}
 use Rattle.pb_frame.specs.Signature.{start, sig}
-use Rattle.pb_frame.specs.Framing.{flag, quote, IsPlain, quoted, quoted_byte, Outcome, Whole, Faulty, Verdict, ended_outcome, content_of, outcome, verdicts, unfinished}
+use Rattle.pb_frame.specs.Framing.{flag, quote, IsPlain, quoted, quoted_byte, Finding, Whole, Faulty, Verdict, ended_outcome, content_of, outcome, verdicts, unfinished}
 use Rattle.pb_frame.specs.Hearing.{Hearing, hearing, HasNoFlag, IsSettled, IsJudged, IsBehindFlag, IsWithin, StandsIn, StandsFor, Follows, shown}
 use Rattle.pb_frame.specs.Turn.{Turn, turned, kept, ended, gone_on, begun, unquoted_by, passed, turn_in}
 use Rattle.pb_frame.proofs.QuotedLemmas.{quoted-nil, quoted-push, quoted-append, quoted-plain, quoted_byte-plain, no_flag-quoted, length-quoted}
@@ -37,7 +37,7 @@ verdicts-quoting front body h =
     ∙ ap (λ vs. verdicts (front ++ flag ∷ []) ++ vs) (judged-none (length front + 1) (quoted body ++ quote ∷ []) false (outcome-quoting (length front + 1) body h))
     ∙ append-nil (verdicts (front ++ flag ∷ []))
 
-verdicts-settled : (front text : List ℕ) (o : Outcome) → HasNoFlag text → 0 < length text → IsSettled (length front + 1) text o
+verdicts-settled : (front text : List ℕ) (o : Finding) → HasNoFlag text → 0 < length text → IsSettled (length front + 1) text o
     → verdicts (front ++ flag ∷ text) ≡ verdicts (front ++ flag ∷ []) ++ record { piece = length front + 1; outcome = o } ∷ []
 verdicts-settled front text o clear some settled =
     verdicts-open front text clear

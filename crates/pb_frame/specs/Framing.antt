@@ -51,7 +51,8 @@ unfoldable pub cut : List ℕ → Cut
 cut [] = record { head = []; texts = [] }
 cut (byte ∷ stream) =
     let rest = cut stream in
-    if nat_eq byte flag then record { head = []; texts = rest.head ∷ rest.texts } else record { head = byte ∷ rest.head; texts = rest.texts }
+    if nat_eq byte flag then record { head = []; texts = rest.head ∷ rest.texts }
+        else record { head = byte ∷ rest.head; texts = rest.texts }
 
 -- a text between two flag bytes, or the open one behind the last flag byte, with the place of its first byte
 pub record Piece : Type 0 where
@@ -118,12 +119,12 @@ unquoted (x ∷ y ∷ text) =
     else with_byte x (unquoted (y ∷ text))
 
 -- what is heard of a piece: its content, or its first fault with the place of the byte that shows it
-pub data Outcome : Type 0 where
-  Whole : (content : List ℕ) → Outcome
-  Faulty : (at : ℕ) (why : Why) → Outcome
+pub data Finding : Type 0 where
+  Whole : (content : List ℕ) → Finding
+  Faulty : (at : ℕ) (why : Why) → Finding
 
 -- An ended text that stands for a body, of at most 1,010 bytes, with the place of its end.
-abbrev pub ended_outcome : ℕ → List ℕ → Outcome
+abbrev pub ended_outcome : ℕ → List ℕ → Finding
 ended_outcome at body =
     if nat_lt (length body) 10 && not (nat_eq (length body) 6) then Faulty at Short
     else (if nat_eq (sig body start) 0 then Whole (content_of body) else Faulty at Signature)
@@ -135,7 +136,7 @@ is_broken (x ∷ []) ended = ended
 is_broken (x ∷ y ∷ rest) ended = true
 
 -- The outcome of a piece, judged over its whole text. An open piece has one only where it has a fault already.
-unfoldable pub outcome : Piece → Option Outcome
+unfoldable pub outcome : Piece → Option Finding
 outcome piece =
     let u = unquoted piece.text in
     if nat_lt 1010 (length u.body) then Some (Faulty (piece.at + length (quoted (take 1011 u.body)) - 1) Long)
@@ -145,7 +146,7 @@ outcome piece =
 -- a verdict on a piece, with the place of its first byte
 pub record Verdict : Type 0 where
   pub piece : ℕ
-  pub outcome : Outcome
+  pub outcome : Finding
 
 -- the one verdict on a good piece that begins here
 abbrev pub whole_at : ℕ → List ℕ → List Verdict

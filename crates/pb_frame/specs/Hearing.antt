@@ -4,7 +4,7 @@ use Rattle.pb_frame.specs.declared.heard.Heard.{Heard}
 use Rattle.pb_frame.specs.declared.heard.Heard.TheVariants.{Nothing, Body, Bad}
 use Rattle.pb_frame.specs.declared.state.State.{State}
 use Rattle.pb_frame.specs.declared.state.State.TheVariants.{Skipping, Between, Whole as WholeBody, Plain, Quoting}
-use Rattle.pb_frame.specs.Framing.{flag, quote, IsPlain, quoted, outcome, content_of, Outcome, Whole, Faulty, Verdict, verdicts, IsContentSize}
+use Rattle.pb_frame.specs.Framing.{flag, quote, IsPlain, quoted, outcome, content_of, Finding, Whole, Faulty, Verdict, verdicts, IsContentSize}
 
 -- what an unframer knows
 pub record Hearing : Type 0 where
@@ -26,14 +26,14 @@ abbrev pub HasNoFlag : List ℕ → Type 0
 HasNoFlag text = All (λ byte. byte ≢ flag) text
 
 -- a text with an outcome that nothing behind it changes
-abbrev pub IsSettled : ℕ → List ℕ → Outcome → Type 0
+abbrev pub IsSettled : ℕ → List ℕ → Finding → Type 0
 IsSettled at text o = (more : List ℕ) (ended : Bool) → outcome (record { at = at; text = text ++ more; ended = ended }) ≡ Some o
 
 -- the piece in progress has its verdict
 pub record IsJudged (pushed : List ℕ) : Type 0 where
   pub front : List ℕ
   pub text : List ℕ
-  pub outcome : Outcome
+  pub outcome : Finding
   pub is : pushed ≡ front ++ flag ∷ text
   pub some : 0 < length text
   pub no_flag : HasNoFlag text

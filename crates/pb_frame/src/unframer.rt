@@ -241,7 +241,8 @@ impl Unframer {
         ensures plain { All IsPlain (take result bytes.now) }
         ensures room { length self.old.body + result ≤ 1010 }
         ensures end { result < length bytes.now → IsPlain (slice_index bytes.now result) → length self.old.body + result ≡ 1010 }
-        ensures after { self.new ≡ hearing self.old.state (self.old.count + result) self.old.piece (self.old.body ++ take result bytes.now) }
+        ensures after { self.new ≡ hearing self.old.state (self.old.count + result) self.old.piece
+            (self.old.body ++ take result bytes.now) }
     {
         let n = copy_plain(bytes, &mut self.body[self.length..], &mut self.signer);
         self.length += n;

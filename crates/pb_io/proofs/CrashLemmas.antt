@@ -3,7 +3,7 @@ use Rattle.std.proofs.Common.{◌≡◌, ℕ, ◌+◌, ◌≤◌, max, List, len
 use Rattle.std.proofs.lemmas.List.{length-take}
 use Rattle.std.proofs.lemmas.Option.{none-some}
 use Rattle.std.specs.Option.{option_map}
-use Rattle.pb_io.specs.Crash.{Torn, Shortened, Follows, Within, Changes}
+use Rattle.pb_io.specs.Crash.{Torn, Shortened, AriseBy, Within, Changes}
 pub use Rattle.pb_io.specs.DiskLaws.{Torn-refl, length-overlaid}
 
 pub Shortened-refl : (len : ℕ) (f : List ℕ) → Shortened len f f
@@ -18,8 +18,8 @@ pub Shortened-no_shorter : (len : ℕ) (old new : List ℕ) → Shortened len ol
 Shortened-no_shorter len old new shortened le = omega (arith, ap length shortened.before, length-take len new, length-take len old)
 
 -- what is settled after a call comes from what was there before it
-pub Follows-within : (step : List ℕ → List ℕ → Type 0) (a b c : List ℕ → Type 0) → Follows step a b → Within b c → Follows step a c
-Follows-within step a b c follows within x is = follows x (within x is)
+pub AriseBy-within : (step : List ℕ → List ℕ → Type 0) (a b c : List ℕ → Type 0) → AriseBy step a b → Within b c → AriseBy step a c
+AriseBy-within step a b c follows within x is = follows x (within x is)
 
 pub Changes-same : (step : List ℕ → List ℕ → Type 0) (a b c : Option (List ℕ)) → Changes step a b → c ≡ b → Changes step a c
 Changes-same step a b c changes is = subst (Changes step a) (sym is) changes

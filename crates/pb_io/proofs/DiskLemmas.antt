@@ -1,7 +1,7 @@
 -- What the calls of a disk in memory do to what it reports.
 use Rattle.std.proofs.Common.{◌≡◌, inl, inr, ⊎_elim, ℕ, ◌+◌, ◌≤◌, List, [], ◌∷◌, length, Some, refl, sym, ◌∙◌, ap, subst, arith}
 use Rattle.std.proofs.lemmas.Option.{same_Some}
-use Rattle.pb_io.specs.Crash.{max_file_len, Torn, Shortened, Follows, Changes}
+use Rattle.pb_io.specs.Crash.{max_file_len, Torn, Shortened, AriseBy, Changes}
 use Rattle.pb_io.specs.Disk.{ReadsOnly}
 use Rattle.pb_io.specs.DiskLaws.{overlaid-torn, take-shortened, file_wrote, file-image, first_whole}
 use Rattle.pb_io.specs.DiskLog.{Change, Wrote, Cut, Synced, Linked, file_of, image_of, DiskLog, disk_view}
@@ -45,17 +45,17 @@ pub kept-torn : (old new : DiskLog) (at size a b m n : ℕ) → new.first ≡ ol
 kept-torn old new at size a b m n first changes =
     logged new old.first old.changes (λ d. Changes (Torn at size) (disk_view old a b).file (disk_view d m n).file) first changes (changes_step (Torn at size) _ _ (record { before = refl; after = refl; no_shorter = omega arith }))
 
-pub kept-images-torn : (old new : DiskLog) (at size a b m n : ℕ) → new.first ≡ old.first → new.changes ≡ old.changes → Follows (Torn at size) (disk_view old a b).image (disk_view new m n).image
+pub kept-images-torn : (old new : DiskLog) (at size a b m n : ℕ) → new.first ≡ old.first → new.changes ≡ old.changes → AriseBy (Torn at size) (disk_view old a b).image (disk_view new m n).image
 kept-images-torn old new at size a b m n first changes =
-    logged new old.first old.changes (λ d. Follows (Torn at size) (disk_view old a b).image (disk_view d m n).image) first changes (λ c is. (c, is, record { before = refl; after = refl; no_shorter = omega arith }))
+    logged new old.first old.changes (λ d. AriseBy (Torn at size) (disk_view old a b).image (disk_view d m n).image) first changes (λ c is. (c, is, record { before = refl; after = refl; no_shorter = omega arith }))
 
 pub kept-shortened : (old new : DiskLog) (len a b m n : ℕ) → new.first ≡ old.first → new.changes ≡ old.changes → Changes (Shortened len) (disk_view old a b).file (disk_view new m n).file
 kept-shortened old new len a b m n first changes =
     logged new old.first old.changes (λ d. Changes (Shortened len) (disk_view old a b).file (disk_view d m n).file) first changes (changes_step (Shortened len) _ _ (record { before = refl; no_longer = omega arith }))
 
-pub kept-images-shortened : (old new : DiskLog) (len a b m n : ℕ) → new.first ≡ old.first → new.changes ≡ old.changes → Follows (Shortened len) (disk_view old a b).image (disk_view new m n).image
+pub kept-images-shortened : (old new : DiskLog) (len a b m n : ℕ) → new.first ≡ old.first → new.changes ≡ old.changes → AriseBy (Shortened len) (disk_view old a b).image (disk_view new m n).image
 kept-images-shortened old new len a b m n first changes =
-    logged new old.first old.changes (λ d. Follows (Shortened len) (disk_view old a b).image (disk_view d m n).image) first changes (λ c is. (c, is, record { before = refl; no_longer = omega arith }))
+    logged new old.first old.changes (λ d. AriseBy (Shortened len) (disk_view old a b).image (disk_view d m n).image) first changes (λ c is. (c, is, record { before = refl; no_longer = omega arith }))
 
 pub wrote-file : (old new : DiskLog) (at : ℕ) (bytes : List ℕ) (a b m n : ℕ) → new.first ≡ old.first → new.changes ≡ Wrote at bytes ∷ old.changes → at ≤ length (file_of old.first old.changes) → at + length bytes ≤ max_file_len
     → Changes (Torn at (length bytes)) (disk_view old a b).file (disk_view new m n).file
@@ -63,17 +63,17 @@ wrote-file old new at bytes a b m n first changes within short =
     logged new old.first (Wrote at bytes ∷ old.changes) (λ d. Changes (Torn at (length bytes)) (disk_view old a b).file (disk_view d m n).file) first changes
     (changes_step (Torn at (length bytes)) _ _ (subst (Torn at (length bytes) (file_of old.first old.changes)) (sym (file_wrote old.first old.changes at bytes within short)) (overlaid-torn (file_of old.first old.changes) at bytes within)))
 
-pub wrote-images : (old new : DiskLog) (at : ℕ) (bytes : List ℕ) (a b m n : ℕ) → new.first ≡ old.first → new.changes ≡ Wrote at bytes ∷ old.changes → Follows (Torn at (length bytes)) (disk_view old a b).image (disk_view new m n).image
+pub wrote-images : (old new : DiskLog) (at : ℕ) (bytes : List ℕ) (a b m n : ℕ) → new.first ≡ old.first → new.changes ≡ Wrote at bytes ∷ old.changes → AriseBy (Torn at (length bytes)) (disk_view old a b).image (disk_view new m n).image
 wrote-images old new at bytes a b m n first changes =
-    logged new old.first (Wrote at bytes ∷ old.changes) (λ d. Follows (Torn at (length bytes)) (disk_view old a b).image (disk_view d m n).image) first changes (λ c is. is.1)
+    logged new old.first (Wrote at bytes ∷ old.changes) (λ d. AriseBy (Torn at (length bytes)) (disk_view old a b).image (disk_view d m n).image) first changes (λ c is. is.1)
 
 pub cut-file : (old new : DiskLog) (len a b m n : ℕ) → new.first ≡ old.first → new.changes ≡ Cut len ∷ old.changes → Changes (Shortened len) (disk_view old a b).file (disk_view new m n).file
 cut-file old new len a b m n first changes =
     logged new old.first (Cut len ∷ old.changes) (λ d. Changes (Shortened len) (disk_view old a b).file (disk_view d m n).file) first changes (changes_step (Shortened len) _ _ (take-shortened (file_of old.first old.changes) len))
 
-pub cut-images : (old new : DiskLog) (len a b m n : ℕ) → new.first ≡ old.first → new.changes ≡ Cut len ∷ old.changes → Follows (Shortened len) (disk_view old a b).image (disk_view new m n).image
+pub cut-images : (old new : DiskLog) (len a b m n : ℕ) → new.first ≡ old.first → new.changes ≡ Cut len ∷ old.changes → AriseBy (Shortened len) (disk_view old a b).image (disk_view new m n).image
 cut-images old new len a b m n first changes =
-    logged new old.first (Cut len ∷ old.changes) (λ d. Follows (Shortened len) (disk_view old a b).image (disk_view d m n).image) first changes (λ c is. is)
+    logged new old.first (Cut len ∷ old.changes) (λ d. AriseBy (Shortened len) (disk_view old a b).image (disk_view d m n).image) first changes (λ c is. is)
 
 -- the same of the file alone
 pub wrote_file : (old : DiskLog) (first : List ℕ) (changes : List Change) (at : ℕ) (bytes : List ℕ) → first ≡ old.first → changes ≡ Wrote at bytes ∷ old.changes → at ≤ length (file_of old.first old.changes) → at + length bytes ≤ max_file_len

@@ -1,7 +1,7 @@
 -- How runs of disk calls follow one another, and what a crash leaves of them.
 use Rattle.std.proofs.Common.{◌≡◌, ℕ, ◌≤◌, List, Some, refl, sym, ◌∙◌, ap, arith}
 use Rattle.pb_io.proofs.Moments.{started, goes_on, LeavesOnly-trans, LeavesOnly-weaker}
-use Rattle.pb_io.specs.Crash.{Follows, Within}
+use Rattle.pb_io.specs.Crash.{AriseBy, Within}
 use Rattle.pb_io.specs.Settled.{LeftBy, Runs}
 use Rattle.pb_io.specs.View.{View, Link, IsLawful, Elapses}
 
@@ -23,7 +23,7 @@ module _ (step : List ℕ → List ℕ → Type 0) where
   }
 
   -- one call
-  pub Runs-one : (old new : View) → IsLawful old → ((c : List ℕ) → step c c) → Follows step old.image new.image → new.link ≡ old.link → Elapses old new → old.faults ≤ new.faults → Runs step old new
+  pub Runs-one : (old new : View) → IsLawful old → ((c : List ℕ) → step c c) → AriseBy step old.image new.image → new.link ≡ old.link → Elapses old new → old.faults ≤ new.faults → Runs step old new
   Runs-one old new lawful same follows link time later = record {
     images = follows;
     leaves = goes_on old old new (LeftBy step old) (started old (LeftBy step old) lawful (λ w c is image. (is, (c, image, same c)))) time

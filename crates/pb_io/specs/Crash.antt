@@ -27,8 +27,8 @@ pub record Shortened (len : ℕ) (old new : List ℕ) : Type 0 where
   pub no_longer : length new ≤ length old
 
 -- each file of the new ones is one of the old after a step
-abbrev pub Follows : (List ℕ → List ℕ → Type 0) → (List ℕ → Type 0) → (List ℕ → Type 0) → Type 0
-Follows step old new = (c : List ℕ) → new c → (d : List ℕ) × old d × step d c
+abbrev pub AriseBy : (List ℕ → List ℕ → Type 0) → (List ℕ → Type 0) → (List ℕ → Type 0) → Type 0
+AriseBy step old new = (c : List ℕ) → new c → (d : List ℕ) × old d × step d c
 
 -- each file of the new ones is one of the old
 abbrev pub Within : (List ℕ → Type 0) → (List ℕ → Type 0) → Type 0

@@ -2,7 +2,7 @@
 use Rattle.std.specs.Prelude.{◌≡◌, ◌⊎◌, ℕ, ◌≤◌, List, length, Some}
 use Rattle.std.specs.Option.{option_map}
 use Rattle.pb_base.specs.World.{World}
-use Rattle.pb_io.specs.Crash.{overlaid, Torn, Follows}
+use Rattle.pb_io.specs.Crash.{overlaid, Torn, AriseBy}
 use Rattle.pb_io.specs.View.{View, LeavesOnly}
 
 -- nothing is pending: a crash leaves the file as it reads
@@ -24,7 +24,7 @@ Leaves step old new = LeavesOnly old new (LeftBy step old)
 -- Disk calls of which a crash leaves, at any moment and now, what it might have left before, after a step. Failed calls
 -- are among them.
 pub record Runs (step : List ℕ → List ℕ → Type 0) (old new : View) : Type 0 where
-  pub images : Follows step old.image new.image
+  pub images : AriseBy step old.image new.image
   pub leaves : Leaves step old new
   pub link : new.link ≡ old.link
   pub later : old.faults ≤ new.faults
@@ -46,7 +46,7 @@ InOrder first_at first second_at n old w c =
 
 -- Two writes, the first one settled before the second. A crash leaves this order at any moment, and now.
 pub record RunsInOrder (first_at : ℕ) (first : List ℕ) (second_at n : ℕ) (old new : View) : Type 0 where
-  pub images : Follows (TornInOrder first_at first second_at n) old.image new.image
+  pub images : AriseBy (TornInOrder first_at first second_at n) old.image new.image
   pub leaves : LeavesOnly old new (InOrder first_at first second_at n old)
   pub link : new.link ≡ old.link
   pub later : old.faults ≤ new.faults

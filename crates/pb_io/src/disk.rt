@@ -1,7 +1,7 @@
 //! A file that a crash may tear.
 ghost use Rattle.std.specs.Prelude.{◌≡◌, ◌+◌, ◌≤◌, length, take, drop, IfOk, OnOk, OnErr, IfSome};
 ghost use Rattle.std.specs.Option.{ForSome, option_map};
-ghost use Rattle.pb_io.specs.Crash.{max_file_len, overlaid, Torn, Shortened, Follows, Within, Changes};
+ghost use Rattle.pb_io.specs.Crash.{max_file_len, overlaid, Torn, Shortened, AriseBy, Within, Changes};
 ghost use Rattle.pb_io.specs.Disk.{ReadsOnly};
 ghost use Rattle.pb_io.specs.Faults.{HasCause};
 ghost use Rattle.pb_io.specs.Settled.{IsSettled};
@@ -47,7 +47,7 @@ pub trait Disk {
         ensures written { OnOk result ((view self.new).file ≡ option_map (λ f. overlaid f at from.now) (view self.old).file) }
         ensures bound { OnOk result (at + length from.now ≤ max_file_len) }
         ensures file { Changes (Torn at (length from.now)) (view self.old).file (view self.new).file }
-        ensures images { Follows (Torn at (length from.now)) (view self.old).image (view self.new).image }
+        ensures images { AriseBy (Torn at (length from.now)) (view self.old).image (view self.new).image }
         ensures link { (view self.new).link ≡ (view self.old).link }
         ensures time { Elapses (view self.old) (view self.new) }
         ensures cause { HasCause (view self.old).faults (view self.new).faults result };
@@ -58,7 +58,7 @@ pub trait Disk {
         requires { ForSome (view self.old).file (λ f. len ≤ length f) }
         ensures shortened { OnOk result ((view self.new).file ≡ option_map (λ f. take len f) (view self.old).file) }
         ensures file { Changes (Shortened len) (view self.old).file (view self.new).file }
-        ensures images { Follows (Shortened len) (view self.old).image (view self.new).image }
+        ensures images { AriseBy (Shortened len) (view self.old).image (view self.new).image }
         ensures link { (view self.new).link ≡ (view self.old).link }
         ensures time { Elapses (view self.old) (view self.new) }
         ensures cause { HasCause (view self.old).faults (view self.new).faults result };

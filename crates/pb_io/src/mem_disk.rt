@@ -4,7 +4,7 @@ ghost use Rattle.std.specs.Option.{option_copied};
 ghost use Rattle.pb_base.specs.World.{Sent, sent};
 ghost use Rattle.pb_io.specs.Calls.{is_listed, no_calls};
 ghost use Rattle.pb_io.specs.ChangeLog.{arrival};
-ghost use Rattle.pb_io.specs.Crash.{max_file_len, overlaid, Torn, Shortened, Follows, Within, Changes};
+ghost use Rattle.pb_io.specs.Crash.{max_file_len, overlaid, Torn, Shortened, AriseBy, Within, Changes};
 ghost use Rattle.pb_io.specs.Disk.{ReadsOnly};
 ghost use Rattle.pb_io.specs.DiskLaws.{disk_is_lawful};
 ghost use Rattle.pb_io.specs.DiskLog.{Cut, Linked, Synced, Wrote, after_change, after_look, disk_in, disk_view, file_now, world_of};
@@ -174,7 +174,7 @@ impl Disk for MemDisk {
         ensures written { OnOk result ((disk_view self.new 0 0).file ≡ Some (overlaid (file_now self.old) at from.now)) }
         ensures bound { OnOk result (at + length from.now ≤ max_file_len) }
         ensures file { Changes (Torn at (length from.now)) (disk_view self.old 0 0).file (disk_view self.new 0 0).file }
-        ensures images { Follows (Torn at (length from.now)) (disk_view self.old 0 0).image (disk_view self.new 0 0).image }
+        ensures images { AriseBy (Torn at (length from.now)) (disk_view self.old 0 0).image (disk_view self.new 0 0).image }
         ensures link { (disk_view self.new 0 0).link ≡ (disk_view self.old 0 0).link }
         ensures time { Elapses (disk_view self.old 0 0) (disk_view self.new 0 0) }
         ensures cause { HasCause self.old.calls.faults self.new.calls.faults result }
@@ -200,7 +200,7 @@ impl Disk for MemDisk {
         requires { len ≤ length (file_now self.old) }
         ensures shortened { OnOk result ((disk_view self.new 0 0).file ≡ Some (take len (file_now self.old))) }
         ensures file { Changes (Shortened len) (disk_view self.old 0 0).file (disk_view self.new 0 0).file }
-        ensures images { Follows (Shortened len) (disk_view self.old 0 0).image (disk_view self.new 0 0).image }
+        ensures images { AriseBy (Shortened len) (disk_view self.old 0 0).image (disk_view self.new 0 0).image }
         ensures link { (disk_view self.new 0 0).link ≡ (disk_view self.old 0 0).link }
         ensures time { Elapses (disk_view self.old 0 0) (disk_view self.new 0 0) }
         ensures cause { HasCause self.old.calls.faults self.new.calls.faults result }

@@ -3,7 +3,7 @@ ghost use Rattle.std.specs.Prelude.{◌≡◌, ◌+◌, ◌<◌, ◌≤◌, min,
 ghost use Rattle.std.specs.Option.{option_copied};
 ghost use Rattle.pb_base.specs.World.{sent};
 ghost use Rattle.pb_io.specs.Calls.{is_listed, after_call, no_calls};
-ghost use Rattle.pb_io.specs.Crash.{max_file_len, overlaid, Torn, Shortened, Follows, Within, Changes};
+ghost use Rattle.pb_io.specs.Crash.{max_file_len, overlaid, Torn, Shortened, AriseBy, Within, Changes};
 ghost use Rattle.pb_io.specs.Disk.{ReadsOnly};
 ghost use Rattle.pb_io.specs.DiskLaws.{disk_is_lawful};
 ghost use Rattle.pb_io.specs.DiskLog.{Cut, Synced, Wrote, after_change, after_look, file_now, world_of};
@@ -107,7 +107,7 @@ impl Disk for MemSite {
         ensures written { OnOk result ((site_view self.new).file ≡ Some (overlaid (file_now self.old.disk) at from.now)) }
         ensures bound { OnOk result (at + length from.now ≤ max_file_len) }
         ensures file { Changes (Torn at (length from.now)) (site_view self.old).file (site_view self.new).file }
-        ensures images { Follows (Torn at (length from.now)) (site_view self.old).image (site_view self.new).image }
+        ensures images { AriseBy (Torn at (length from.now)) (site_view self.old).image (site_view self.new).image }
         ensures link { (site_view self.new).link ≡ (site_view self.old).link }
         ensures time { Elapses (site_view self.old) (site_view self.new) }
         ensures cause { HasCause self.old.disk.calls.faults self.new.disk.calls.faults result }
@@ -122,7 +122,7 @@ impl Disk for MemSite {
         requires { len ≤ length (file_now self.old.disk) }
         ensures shortened { OnOk result ((site_view self.new).file ≡ Some (take len (file_now self.old.disk))) }
         ensures file { Changes (Shortened len) (site_view self.old).file (site_view self.new).file }
-        ensures images { Follows (Shortened len) (site_view self.old).image (site_view self.new).image }
+        ensures images { AriseBy (Shortened len) (site_view self.old).image (site_view self.new).image }
         ensures link { (site_view self.new).link ≡ (site_view self.old).link }
         ensures time { Elapses (site_view self.old) (site_view self.new) }
         ensures cause { HasCause self.old.disk.calls.faults self.new.disk.calls.faults result }

@@ -65,6 +65,10 @@ impl Page {
     pub fn push_decimal<O: Sink>(&mut self, n: u64, out: &mut O)
         ensures { Adds (decimal n) (printing O.Sink self.old out.old) (printing O.Sink self.new out.new) }
     {
+        if n < 10 {
+            self.push(&[b'0' + n as u8], out);
+            return;
+        }
         self.push(itoa::Buffer::new().format(n).as_bytes(), out);
     }
 

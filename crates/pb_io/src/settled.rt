@@ -49,7 +49,8 @@ pub fn write_in_order<D: Disk>(
 ) -> Result<(), Failed>
     requires first { ForSome (D.view disk.old).file (λ f. first_at ≤ length f) }
     requires second { ForSome (D.view disk.old).file (λ f. second_at ≤ max (length f) (first_at + length first.now)) }
-    ensures written { OnOk result (IsMapped (overlaid_twice first_at first.now second_at second.now) (D.view disk.old) (D.view disk.new)) }
+    ensures written { OnOk result
+        (IsMapped (overlaid_twice first_at first.now second_at second.now) (D.view disk.old) (D.view disk.new)) }
     ensures settled { OnOk result (IsSettled (D.view disk.new)) }
     ensures run { RunsInOrder first_at first.now second_at (length second.now) (D.view disk.old) (D.view disk.new) }
     ensures cause { HasCause (D.view disk.old).faults (D.view disk.new).faults result }

@@ -9,6 +9,7 @@ use Rattle.pb_base.proofs.FieldLaws.{byte-again}
 use Rattle.pb_layout.specs.Kind.{Kind, Byte, Between, Half, Word, Split, Time, Text, Rest, AtMost, Numbers, Settings, Value}
 use Rattle.pb_layout.specs.Layout.{MessageLayout, Done, Stop, Key}
 use Rattle.pb_layout.specs.Reading.{and_then, field, within, with_number, numbers_at, setting_at, settings_at, key_at, reading, Gives}
+use Rattle.pb_layout.specs.Typed.{typed}
 
 abbrev pub IsMalformed : MessageFault → Type 0
 IsMalformed (UnknownType n) = ⊥
@@ -80,17 +81,14 @@ reading-malformed (Key k next) u none =
 -- ---- layouts that begin with a type and a transaction
 
 module _ {X : Type 0} (of_type : ℕ → ℕ → MessageLayout X) where
-  abbrev pub typed : MessageLayout X
-  typed = Key Byte (λ type. Key Byte (λ tran. of_type type tran))
-
-  pub reading-short : (bytes : List ℕ) → length bytes < 2 → reading typed (whole bytes) ≡ Err (Malformed (length bytes))
+  pub reading-short : (bytes : List ℕ) → length bytes < 2 → reading (typed of_type) (whole bytes) ≡ Err (Malformed (length bytes))
   unfolding reading key_at
   reading-short [] short = refl
   reading-short (a ∷ []) short = refl
   reading-short (a ∷ b ∷ bytes) short = absurd (omega arith)
 
   -- behind two bytes the type decides
-  pub reading-typed : (type tran : ℕ) (rest : List ℕ) → type < 256 → tran < 256 → reading typed (whole (type ∷ tran ∷ rest)) ≡ reading (of_type type tran) (unread 2 rest)
+  pub reading-typed : (type tran : ℕ) (rest : List ℕ) → type < 256 → tran < 256 → reading (typed of_type) (whole (type ∷ tran ∷ rest)) ≡ reading (of_type type tran) (unread 2 rest)
   unfolding reading key_at
   reading-typed type tran rest small_type small_tran =
       let next : ℕ × Unread → Result X MessageFault = λ v. and_then (field v.1 (number_at w8 v.1)) (λ w. reading (of_type v.0 w.0) w.1) in

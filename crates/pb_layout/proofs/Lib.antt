@@ -7,3 +7,4 @@ pub mod LayoutLaws
 pub mod PieceLaws
 pub mod FaultLaws
 pub mod BreakLaws
+pub mod TypedLaws

@@ -22,7 +22,8 @@ pub record NumbersBreak (n : ℕ) (bytes : List ℕ) : Type 0 where
 -- a setting breaks off in its number, its length or its bytes, so far from its first byte
 abbrev pub SettingBreaks : ℕ → List ℕ → Type 0
 SettingBreaks n bytes =
-    ((n ≡ 0) × (length bytes < 2)) ⊎ ((n ≡ 2) × (2 ≤ length bytes) × (length bytes < 4)) ⊎ ((n ≡ 4) × (4 ≤ length bytes) × (length bytes < setting_len bytes))
+    ((n ≡ 0) × (length bytes < 2)) ⊎ ((n ≡ 2) × (2 ≤ length bytes) × (length bytes < 4))
+    ⊎ ((n ≡ 4) × (4 ≤ length bytes) × (length bytes < setting_len bytes))
 
 -- whole settings go so far, and the next one breaks off
 pub record SettingsBreak (n : ℕ) (bytes : List ℕ) : Type 0 where

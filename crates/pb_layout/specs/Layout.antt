@@ -52,7 +52,8 @@ AllObey (Key k next) values = Obeys k values.0 × AllObey (next values.0) values
 abbrev pub MayEnd : {X : Type 0} → (l : MessageLayout X) → Values l → List ℕ → Type 0
 MayEnd (Done x) values rest = Unit {0}
 MayEnd (Stop fault) values rest = Unit {0}
-MayEnd (Key k next) values rest = MayFollow k values.0 (spelled (next values.0) values.1 ++ rest) × MayEnd (next values.0) values.1 rest
+MayEnd (Key k next) values rest = MayFollow k values.0 (spelled (next values.0) values.1 ++ rest)
+    × MayEnd (next values.0) values.1 rest
 
 -- The number is among these.
 abbrev pub IsAmong : List ℕ → ℕ → Type 0
@@ -68,6 +69,12 @@ module _ {X : Type 0} (l : MessageLayout X) (keys : X → Values l) where
   -- the message's bytes
   abbrev pub bytes_of : X → List ℕ
   bytes_of x = spelled l (keys x)
+
+  -- These are the bytes of the message, which obeys its layout, and whose numbers lie in the ranges of their types.
+  pub record HasBytes (x : X) (bytes : List ℕ) : Type 0 where
+    pub valid : IsValid x
+    pub fits : AllFit l (keys x)
+    pub is : bytes ≡ bytes_of x
 
   -- The bytes read as the message: they are its bytes, and behind them any where its layout has an end.
   pub record ReadsAs (x : X) (bytes : List ℕ) : Type 0 where

@@ -3,5 +3,6 @@ pub mod Kind
 pub mod Layout
 pub mod Lists
 pub mod Reading
+pub mod Typed
 pub mod Pieces
 pub mod Inside

@@ -15,7 +15,11 @@ setting_len bytes = 4 + from_be_bytes w16 (take 2 (drop 2 bytes))
 
 -- the first setting: its number, and the bytes after its length
 abbrev pub first_setting : List ℕ → Setting
-first_setting bytes = record { number = from_be_bytes w16 (take 2 bytes); content = take (from_be_bytes w16 (take 2 (drop 2 bytes))) (drop 4 bytes) }
+first_setting bytes =
+    record {
+      number = from_be_bytes w16 (take 2 bytes);
+      content = take (from_be_bytes w16 (take 2 (drop 2 bytes))) (drop 4 bytes);
+    }
 
 -- settings one after another, at most so many; what is too short for a number and a length at the end is none
 abbrev pub settings_within : ℕ → List ℕ → List Setting

@@ -39,11 +39,15 @@ with_number high low numbers = Ok (high ∷ low ∷ numbers.0, numbers.1)
 abbrev pub numbers_at : List ℕ → ℕ → Result (List ℕ × Unread) MessageFault
 numbers_at [] at = Err (Malformed at)
 numbers_at (high ∷ []) at = Err (Malformed at)
-numbers_at (high ∷ low ∷ rest) at = if high + low == 0 then Ok ([], record { at = at + 2; rest = rest }) else and_then (numbers_at rest (at + 2)) (with_number high low)
+numbers_at (high ∷ low ∷ rest) at = if high + low == 0 then Ok ([], record { at = at + 2; rest = rest })
+    else and_then (numbers_at rest (at + 2)) (with_number high low)
 
 -- what is left behind the next setting: its number, its length and its bytes are three fields
 abbrev pub setting_at : Unread → Result Unread MessageFault
-setting_at u = and_then (field u (number_at w16 u)) (λ number. and_then (field number.1 (number_at w16 number.1)) (λ len. and_then (field len.1 (bytes_at len.0 len.1)) (λ content. Ok content.1)))
+setting_at u =
+    and_then (field u (number_at w16 u))
+    (λ number. and_then (field number.1 (number_at w16 number.1))
+    (λ len. and_then (field len.1 (bytes_at len.0 len.1)) (λ content. Ok content.1)))
 
 -- settings up to the end, at most so many
 abbrev pub settings_at : ℕ → Unread → Result Unread MessageFault

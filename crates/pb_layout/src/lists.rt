@@ -24,8 +24,12 @@ pub(crate) fn numbers_len(bytes: &[u8]) -> usize
 /// Refuses the first field of the settings that can't be read; they are the last bytes of a message of this length.
 pub(crate) fn check_settings(settings: &[u8], message_len: usize) -> Result<(), MessageFault>
     requires { length settings.now ≤ message_len }
-    ensures read { OnOk result ((after : Unread) × (settings_at (length settings.now) (unread (message_len - length settings.now) settings.now) ≡ Ok after)) }
-    ensures refused { IfErr result (λ fault. settings_at (length settings.now) (unread (message_len - length settings.now) settings.now) ≡ Err fault) }
+    ensures read { OnOk result
+        ((after : Unread) × (settings_at (length settings.now)
+        (unread (message_len - length settings.now) settings.now) ≡ Ok after)) }
+    ensures refused { IfErr result
+        (λ fault. settings_at (length settings.now)
+        (unread (message_len - length settings.now) settings.now) ≡ Err fault) }
 {
     let mut left = settings;
     // Each setting has bytes, so there are at most as many.
@@ -44,7 +48,9 @@ pub(crate) fn check_settings(settings: &[u8], message_len: usize) -> Result<(), 
 // What is left after the first setting.
 fn setting(bytes: &[u8], message_len: usize) -> Result<&[u8], MessageFault>
     requires { length bytes.now ≤ message_len }
-    ensures read { IfOk result (λ left. setting_at (unread (message_len - length bytes.now) bytes.now) ≡ Ok (unread (message_len - length left.now) left.now)) }
+    ensures read { IfOk result
+        (λ left. setting_at (unread (message_len - length bytes.now) bytes.now) ≡ Ok
+        (unread (message_len - length left.now) left.now)) }
     ensures shorter { IfOk result (λ left. length left.now ≤ length bytes.now) }
     ensures refused { IfErr result (λ fault. setting_at (unread (message_len - length bytes.now) bytes.now) ≡ Err fault) }
 {

@@ -9,7 +9,7 @@ use Rattle.pb_packet.specs.declared.headers.Header.{Header}
 use Rattle.pb_packet.specs.declared.headers.PacketFault.{PacketFault}
 use Rattle.pb_packet.specs.declared.headers.PacketFault.TheVariants.{ReservedState, NullAddress}
 use Rattle.pb_packet.specs.declared.headers.Packet.{Packet}
-use Rattle.pb_packet.specs.Packet.{Seen, seen, link, full, code_of, word, phys_bytes, packet_bytes, IsValidPhys, IsValidHeader, IsValid, PacketBytes, bits_at, address_at, with_state, with_address, phys_of, header_of, behind, packet_of}
+use Rattle.pb_packet.specs.Packet.{Seen, seen_of, link, full, code_of, word, phys_bytes, packet_bytes, IsValidPhys, IsValidHeader, IsValid, PacketBytes, bits_at, address_at, with_state, with_address, phys_of, header_of, behind, packet_of}
 
 -- ---- steps that may refuse
 
@@ -258,12 +258,12 @@ packet_of-bytes (full h message) valid =
 -- ---- the answers of a read
 
 pub read_found : (r : Result Packet PacketFault) (content : List ℕ) → IsBytes content → (length content ≡ 4) ⊎ (8 ≤ length content)
-    → MatchResult r (λ p. packet_of content ≡ Ok (seen p)) (λ e. packet_of content ≡ Err e) → IfOk r (λ p. PacketBytes (seen p) content)
-read_found (Ok p) content bytes long is = packet_of-found content (seen p) bytes long is
+    → MatchResult r (λ p. packet_of content ≡ Ok (seen_of p)) (λ e. packet_of content ≡ Err e) → IfOk r (λ p. PacketBytes (seen_of p) content)
+read_found (Ok p) content bytes long is = packet_of-found content (seen_of p) bytes long is
 read_found (Err e) content bytes long is = tt
 
 pub read_only : (r : Result Packet PacketFault) (content : List ℕ)
-    → MatchResult r (λ p. packet_of content ≡ Ok (seen p)) (λ e. packet_of content ≡ Err e)
-    → (p : Seen) → PacketBytes p content → IsOkAnd r (λ q. seen q ≡ p)
+    → MatchResult r (λ p. packet_of content ≡ Ok (seen_of p)) (λ e. packet_of content ≡ Err e)
+    → (p : Seen) → PacketBytes p content → IsOkAnd r (λ q. seen_of q ≡ p)
 read_only (Ok q) content is p of = ok_same _ _ (sym is ∙ ap packet_of of.bytes ∙ packet_of-bytes p of.valid)
 read_only (Err e) content is p of = absurd (no_error e p (sym is ∙ ap packet_of of.bytes ∙ packet_of-bytes p of.valid))

@@ -14,9 +14,9 @@ pub data Seen : Type 0 where
   link : Phys → Seen
   full : Header → List ℕ → Seen
 
-abbrev pub seen : Packet → Seen
-seen (Link phys) = link phys
-seen (Full header message) = full header message.now
+abbrev pub seen_of : Packet → Seen
+seen_of (Link phys) = link phys
+seen_of (Full header message) = full header message.now
 
 -- the number that stands for a link state
 abbrev pub code_of : LinkState → ℕ
@@ -102,7 +102,8 @@ with_state n then_so =
 
 -- the address of a word, and what follows where it isn't 0
 abbrev pub with_address : {X : Type 0} → ℕ → List ℕ → (ℕ → Result X PacketFault) → Result X PacketFault
-with_address word content then_so = if address_at word content == 0 then Err (NullAddress word) else then_so (address_at word content)
+with_address word content then_so = if address_at word content == 0 then Err (NullAddress word)
+    else then_so (address_at word content)
 
 abbrev pub phys_of : List ℕ → Result Phys PacketFault
 phys_of content = with_state (bits_at 0 content) (λ state. with_address 0 content (λ dst. with_address 1 content (λ src.

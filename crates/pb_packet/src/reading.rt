@@ -1,6 +1,6 @@
 //! Reading packets.
 ghost use Rattle.std.specs.Prelude.{◌≡◌, ◌+◌, ◌*◌, ◌/◌, ◌%◌, ◌<◌, ◌≤◌, ◌⊎◌, ◌==◌, length, if◌then◌else◌, IfOk, MatchResult, IsOkAnd};
-ghost use Rattle.pb_packet.specs.Packet.{Seen, seen, packet_of, phys_of, header_of, with_state, PacketBytes};
+ghost use Rattle.pb_packet.specs.Packet.{Seen, seen_of, packet_of, phys_of, header_of, with_state, PacketBytes};
 
 use crate::{Header, LinkState, Packet, PacketFault, Phys};
 use pb_base::NodeId;
@@ -8,9 +8,9 @@ use pb_base::NodeId;
 /// Reads the content of a frame, its body without the nullifier, as a packet.
 pub fn read(content: &[u8]) -> Result<Packet<'_>, PacketFault>
     requires { (length content.now ≡ 4) ⊎ (8 ≤ length content.now) }
-    ensures exact { MatchResult result (λ p. packet_of content.now ≡ Ok (seen p)) (λ e. packet_of content.now ≡ Err e) }
-    ensures found { IfOk result (λ p. PacketBytes (seen p) content.now) }
-    ensures only { (p : Seen) → PacketBytes p content.now → IsOkAnd result (λ q. seen q ≡ p) }
+    ensures exact { MatchResult result (λ p. packet_of content.now ≡ Ok (seen_of p)) (λ e. packet_of content.now ≡ Err e) }
+    ensures found { IfOk result (λ p. PacketBytes (seen_of p) content.now) }
+    ensures only { (p : Seen) → PacketBytes p content.now → IsOkAnd result (λ q. seen_of q ≡ p) }
 {
     packet(content)
 }
@@ -18,7 +18,7 @@ pub fn read(content: &[u8]) -> Result<Packet<'_>, PacketFault>
 // The packet, or the first fault.
 fn packet(content: &[u8]) -> Result<Packet<'_>, PacketFault>
     requires { (length content.now ≡ 4) ⊎ (8 ≤ length content.now) }
-    ensures { MatchResult result (λ p. packet_of content.now ≡ Ok (seen p)) (λ e. packet_of content.now ≡ Err e) }
+    ensures { MatchResult result (λ p. packet_of content.now ≡ Ok (seen_of p)) (λ e. packet_of content.now ≡ Err e) }
 {
     let phys = phys(content)?;
     if content.len() == 4 {

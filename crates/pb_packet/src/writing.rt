@@ -1,7 +1,7 @@
 //! Writing packets.
 ghost use Rattle.std.specs.Prelude.{◌≡◌, ◌≤◌, ◌++◌, IfOk, OnErr};
 ghost use Rattle.pb_base.specs.Put.{IsWritten, DoesNotFit};
-ghost use Rattle.pb_packet.specs.Packet.{seen, code_of, word, phys_bytes, header_bytes, packet_bytes, FitsPhys, FitsHeader, Fits, IsAddress, IsValidPhys, IsValidHeader, IsValid};
+ghost use Rattle.pb_packet.specs.Packet.{seen_of, code_of, word, phys_bytes, header_bytes, packet_bytes, FitsPhys, FitsHeader, Fits, IsAddress, IsValidPhys, IsValidHeader, IsValid};
 
 use crate::{Header, LinkState, Packet, Phys};
 use pb_base::{Full, NodeId, Put};
@@ -9,11 +9,11 @@ use pb_base::{Full, NodeId, Put};
 /// Writes a packet, as the content of a frame, to the front of `out`, and answers how many bytes it has. Where it
 /// doesn't fit nothing is written.
 pub fn write(packet: &Packet, out: &mut [u8]) -> Result<usize, Full>
-    requires { Fits (seen packet.now) }
-    ensures written { IfOk result (IsWritten (packet_bytes (seen packet.now)) out.old out.new) }
-    ensures full { OnErr result (DoesNotFit (packet_bytes (seen packet.now)) out.old out.new) }
+    requires { Fits (seen_of packet.now) }
+    ensures written { IfOk result (IsWritten (packet_bytes (seen_of packet.now)) out.old out.new) }
+    ensures full { OnErr result (DoesNotFit (packet_bytes (seen_of packet.now)) out.old out.new) }
     // So what was written is read as this packet.
-    ensures valid { IsValid (seen packet.now) }
+    ensures valid { IsValid (seen_of packet.now) }
 {
     match *packet {
         Packet::Link(phys) => write_parts(&phys_words(phys), &[], out),

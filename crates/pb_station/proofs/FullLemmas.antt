@@ -19,7 +19,8 @@ use Rattle.pb_bmp5.specs.Message.{CollectKeys, collect_keys}
 use Rattle.pb_bmp5.specs.TrueReply.{Stage, IsStage, run_of, is_between, held, skipped}
 use Rattle.pb_ring.specs.Ring.{IsRecord}
 use Rattle.pb_station.specs.State.{KeptTable, KeptStation, Table, State, StandsFor, TablesStandFor, TableStandsFor, stage_of}
-use Rattle.pb_station.specs.Collect.{Collected, Refused, Sends, answer_mode, asked_mode, numbered, of_table, reply_of, body}
+use Rattle.pb_bmp5.specs.Asking.{asked_mode}
+use Rattle.pb_station.specs.Collect.{Collected, Refused, Sends, answer_mode, numbered, of_table, reply_of, body}
 use Rattle.pb_station.specs.Answer.{Answer, Said, InBmp5, heard, to_bmp5, stays, answer_of, answer_collect, is_wrong, broadcast}
 use Rattle.pb_station.specs.Truth.{Tells, TellsTable, IsCollect, request_of, IsPresent, AnswersFully}
 use Rattle.pb_station.proofs.TruthLemmas.{IsSound, IsAllGood, told_table, part-good, run-good}

@@ -6,44 +6,15 @@ use Rattle.std.specs.Int.RustNames.{FitsSigned, unsigned_abs}
 use Rattle.pb_base.specs.declared.nsec.Nsec.{Nsec}
 use Rattle.pb_base.specs.Time.{HasSecond, HasLater, IsNormal, nanos, time_after, time_later}
 use Rattle.pb_base.specs.World.{StoredRecord}
-use Rattle.pb_base.proofs.TimeLemmas.{second_fits, later_is, carried}
+use Rattle.pb_base.proofs.TimeLemmas.{second_fits, total, later_is, carried, abs_is, later_normal, times_none, times_more, evenly}
 use Rattle.pb_station.specs.Truth.{GoOn, AreRegular}
-
-abbrev total : ℤ → ℤ → ℤ
-total sec nano = sec *ℤ pos 1000000000 +ℤ nano
-
-times_none : (x : ℤ) → x *ℤ pos 0 ≡ pos 0
-times_none (pos m) = pos-*ℤ-pos m 0 ∙ omega (arith, ints)
-times_none (negsuc m) = negsuc-*ℤ-pos m 0 ∙ omega (arith, ints)
-
-times_more : (x : ℤ) (k : ℕ) → x *ℤ pos (suc k) ≡ x *ℤ pos k +ℤ x
-times_more (pos m) k = omega (arith, ints, pos-*ℤ-pos m k, pos-*ℤ-pos m (suc k))
-times_more (negsuc m) k = omega (arith, ints, negsuc-*ℤ-pos m k, negsuc-*ℤ-pos m (suc k))
-
--- so many intervals add so many times its nanoseconds
-evenly : (a b c d : ℤ) (k : ℕ) → total (a +ℤ b *ℤ pos k) (c +ℤ d *ℤ pos k) ≡ total a c +ℤ total b d *ℤ pos k
-evenly a b c d zero = rw (times_none b, times_none d, times_none (total b d)) (omega (arith, ints))
-evenly a b c d (suc k) = rw (times_more b k, times_more d k, times_more (total b d) k) (further (b *ℤ pos k) (d *ℤ pos k) (total b d *ℤ pos k) (evenly a b c d k))
-  where
-    further : (bk dk tk : ℤ) → total (a +ℤ bk) (c +ℤ dk) ≡ total a c +ℤ tk → total (a +ℤ (bk +ℤ b)) (c +ℤ (dk +ℤ d)) ≡ total a c +ℤ (tk +ℤ total b d)
-    further bk dk tk e = omega (arith, ints, e)
 
 after-nanos : (t i : Nsec) (k : ℕ) → nanos (time_after t i k) ≡ nanos t +ℤ nanos i *ℤ pos k
 after-nanos t i k = evenly t.sec i.sec t.nano i.nano k
 
-abs_is : (n : ℤ) → (pos 0 ≤ℤ n) × (n <ℤ pos 1000000000) → pos (unsigned_abs n) ≡ n
-abs_is (pos n) h = refl
-abs_is (negsuc n) h = absurd (omega (arith, ints, h.0))
-
 later-nanos : (t i : Nsec) (k : ℕ) → IsNormal t → IsNormal i → nanos (time_later t i k) ≡ nanos t +ℤ nanos i *ℤ pos k
 later-nanos t i k nt ni =
     sym (carried t.sec (i.sec *ℤ pos k) t.nano i.nano (unsigned_abs t.nano) (unsigned_abs i.nano) k (abs_is t.nano nt) (abs_is i.nano ni)) ∙ after-nanos t i k
-
-later_normal : (t i : Nsec) (k : ℕ) → IsNormal (time_later t i k)
-later_normal t i k = normal (unsigned_abs t.nano + unsigned_abs i.nano * k)
-  where
-    normal : (n : ℕ) → (pos 0 ≤ℤ pos (n % 1000000000)) × (pos (n % 1000000000) <ℤ pos 1000000000)
-    normal n = (omega (arith, ints), omega (arith, ints))
 
 times_split : (x : ℤ) (n : ℕ) → x *ℤ pos 1 +ℤ x *ℤ pos n ≡ x *ℤ pos (suc n)
 times_split x n = rw (times_more x n, times_more x 0, times_none x) (omega (arith, ints))

@@ -6,9 +6,9 @@ use Rattle.pb_base.specs.World.{StoredRecord}
 use Rattle.pb_base.specs.Time.{time_bytes}
 use Rattle.pb_base.specs.Record.{content, content_len}
 use Rattle.pb_base.specs.History.{History}
-use Rattle.pb_base.specs.Request as asked
 use Rattle.pb_bmp5.specs.declared.message.Mode.{Mode}
 use Rattle.pb_bmp5.specs.declared.message.Mode.TheVariants as mode
+use Rattle.pb_bmp5.specs.Asking.{asked_mode}
 use Rattle.pb_bmp5.specs.Message.{Message, CollectKeys, CollectReply}
 use Rattle.pb_bmp5.specs.CollectReply.{SeenFragment, whole, part, fragment_bytes}
 use Rattle.pb_bmp5.specs.TrueReply.{Run, run_of}
@@ -32,15 +32,6 @@ other_signature = 7
 pub data Collected : Type 0 where
   Refused : (resp : ℕ) → Collected
   Sends : (fragments : List SeenFragment) → (more : Bool) → Collected
-
--- the mode as it is asked
-abbrev pub asked_mode : Mode → asked.Mode
-asked_mode mode.All = asked.All
-asked_mode (mode.From number) = asked.From number
-asked_mode (mode.Newest count) = asked.Newest count
-asked_mode (mode.Range from to) = asked.Range from to
-asked_mode (mode.Times from to) = asked.Times from to
-asked_mode (mode.Part number offset) = asked.Part number offset
 
 -- the table's records as a history tells them
 abbrev pub history_of : Table → History

@@ -7,11 +7,12 @@ use Rattle.pb_base.specs.World.{StoredRecord, TableDefinition}
 use Rattle.pb_base.specs.History.{TableKey, History}
 use Rattle.pb_base.specs.Request.{Request}
 use Rattle.pb_packet.specs.declared.headers.Header.{Header}
+use Rattle.pb_bmp5.specs.Asking.{request_by}
 use Rattle.pb_bmp5.specs.Message as bmp5
 use Rattle.pb_bmp5.specs.Message.{CollectKeys}
 use Rattle.pb_bmp5.specs.TrueReply.{Delivered, Stage, FullReply}
 use Rattle.pb_station.specs.State.{Table, State, stage_of}
-use Rattle.pb_station.specs.Collect.{asked_mode, numbered}
+use Rattle.pb_station.specs.Collect.{numbered}
 use Rattle.pb_station.specs.Answer.{Answer, InBmp5, broadcast}
 
 -- each record's time is one interval after the time before it
@@ -48,12 +49,7 @@ pub record IsCollect (s : State) (header : Header) (message : List ℕ) (tran : 
 
 -- what the packet's source asks
 abbrev pub request_of : Header → (tran : ℕ) → CollectKeys → Request
-request_of header tran c = record {
-  me = header.src;
-  table = record { station = header.dst; number = c.table; signature = c.sig };
-  tran = tran;
-  mode = asked_mode c.mode;
-}
+request_of header tran c = request_by header.src header.dst tran c
 
 -- the reply, as it comes to the source
 abbrev pub delivered : Header → bmp5.Message → Delivered

@@ -1,7 +1,7 @@
 //! What a station answers to BMP5 messages.
 ghost use Rattle.std.specs.Prelude.{◌≡◌, min, List, [], take, drop};
 ghost use Rattle.pb_packet.specs.Packet.{FitsHeader};
-ghost use Rattle.pb_bmp5.specs.Message.{told};
+ghost use Rattle.pb_bmp5.specs.Message.{message_of};
 ghost use Rattle.pb_station.specs.State.{Table, TablesStandFor};
 ghost use Rattle.pb_station.specs.Files.{part_max};
 ghost use Rattle.pb_station.specs.Answer.{FitsPacket, hear_bmp5, to_bmp5, answer_collect, answer_clock, answer_stats, answer_download, answer_upload};
@@ -58,7 +58,7 @@ fn answer_to_bmp5(
     out: &mut [u8; PACKET_MAX],
 ) -> Answered
     ensures answered { (all : List Table) → TablesStandFor tables.now all
-        → let answer = to_bmp5 (record { device = device.old; tables = all }) (told message.now) in
+        → let answer = to_bmp5 (record { device = device.old; tables = all }) (message_of message.now) in
         IsAnswered answer device.old device.new header.now out.old out.new result }
     ensures within { FitsPacket result }
 {

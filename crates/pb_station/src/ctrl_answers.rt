@@ -1,13 +1,13 @@
 //! What a station answers to PakCtrl messages.
 ghost use Rattle.std.specs.Prelude.{◌≡◌};
 ghost use Rattle.pb_packet.specs.Packet.{FitsHeader};
-ghost use Rattle.pb_ctrl.specs.Message.{told};
+ghost use Rattle.pb_ctrl.specs.Message.{message_of};
 ghost use Rattle.pb_station.specs.Answer.{FitsPacket, hear_ctrl, to_ctrl, answer_get, answer_set, fault_code};
 ghost use Rattle.pb_station.specs.Inside.Answered.{IsAnswered};
 
 use crate::device::Device;
 use crate::reply::{PACKET_MAX, fail, reply_ctrl};
-use crate::settings::{Outcome, SETTINGS_BYTES_MAX};
+use crate::settings::{SETTINGS_BYTES_MAX, SetResult};
 use crate::station::Answered;
 use pb_base::MessageFault;
 use pb_ctrl::Ctrl;
@@ -60,7 +60,7 @@ impl Device {
         message: &Ctrl,
         out: &mut [u8; PACKET_MAX],
     ) -> Answered
-        ensures answered { let answer = to_ctrl self.old (told message.now) in
+        ensures answered { let answer = to_ctrl self.old (message_of message.now) in
             IsAnswered answer self.old self.new header.now out.old out.new result }
         ensures within { FitsPacket result }
     {
@@ -144,7 +144,7 @@ impl Device {
             return reply_ctrl(self.address(), header, &refusal, out);
         }
         let address = self.address();
-        let Outcome { outcome, number } = self.set(settings);
+        let SetResult { outcome, number } = self.set(settings);
         let reply = Ctrl::SetSettingsReply {
             tran,
             outcome,

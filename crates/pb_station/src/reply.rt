@@ -33,9 +33,9 @@ pub(crate) fn reply_ctrl(
     message: &Ctrl,
     out: &mut [u8; PACKET_MAX],
 ) -> Answered
-    requires valid { ctrl.Valid (ctrl.told message.now) }
-    requires fits { length (ctrl.message_bytes (ctrl.told message.now)) ≤ 1000 }
-    ensures answered { Replies (ctrl_packet address header.now (ctrl.told message.now)) out.old out.new result }
+    requires valid { ctrl.Valid (ctrl.message_of message.now) }
+    requires fits { length (ctrl.message_bytes (ctrl.message_of message.now)) ≤ 1000 }
+    ensures answered { Replies (ctrl_packet address header.now (ctrl.message_of message.now)) out.old out.new result }
     ensures within { FitsPacket result }
 {
     let len = pb_ctrl::write(message, &mut out[HEADER_LEN..]).unwrap();
@@ -50,9 +50,9 @@ pub(crate) fn reply_bmp5(
     message: &Bmp5,
     out: &mut [u8; PACKET_MAX],
 ) -> Answered
-    requires valid { bmp5.Valid (bmp5.told message.now) }
-    requires fits { length (bmp5.message_bytes (bmp5.told message.now)) ≤ 1000 }
-    ensures answered { Replies (bmp5_packet address header.now (bmp5.told message.now)) out.old out.new result }
+    requires valid { bmp5.Valid (bmp5.message_of message.now) }
+    requires fits { length (bmp5.message_bytes (bmp5.message_of message.now)) ≤ 1000 }
+    ensures answered { Replies (bmp5_packet address header.now (bmp5.message_of message.now)) out.old out.new result }
     ensures within { FitsPacket result }
 {
     let len = pb_bmp5::write(message, &mut out[HEADER_LEN..]).unwrap();

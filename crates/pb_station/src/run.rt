@@ -5,7 +5,7 @@ ghost use Rattle.std.specs.List.{prefix_len};
 ghost use Rattle.pb_base.specs.World.{StoredRecord};
 ghost use Rattle.pb_bmp5.specs.TrueReply.{is_before, is_between, skipped, run_of};
 ghost use Rattle.pb_ring.specs.Ring.{StandsFor, IsHeld, oldest_of};
-ghost use Rattle.pb_station.specs.Collect.{asked_mode};
+ghost use Rattle.pb_bmp5.specs.Asking.{asked_mode};
 ghost use Rattle.pb_station.specs.Inside.Commands.{seen_run, stage_in, history_in, HasTimeOf};
 
 use crate::table::HeldTable;

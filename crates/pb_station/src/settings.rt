@@ -27,7 +27,7 @@ const CODE_NUMBER: u16 = 5;
 
 /// What a list of settings came to: the outcome is 0 where all were set, else 1 with the number of the first that can't be.
 #[derive(Clone, Copy, Debug, PartialEq, Eq)]
-pub(crate) struct Outcome {
+pub(crate) struct SetResult {
     pub(crate) outcome: u8,
     pub(crate) number: u16,
 }
@@ -54,7 +54,7 @@ impl Device {
     }
 
     /// Takes settings in their order, up to the first that can't be set.
-    pub(crate) fn set(&mut self, settings: &[u8]) -> Outcome
+    pub(crate) fn set(&mut self, settings: &[u8]) -> SetResult
         ensures { WereAllSet (set_from self.old settings.now) self.new result }
     {
         let mut left = settings;
@@ -64,11 +64,11 @@ impl Device {
                 break;
             };
             if !self.set_one(number, content) {
-                return Outcome { outcome: 1, number };
+                return SetResult { outcome: 1, number };
             }
             left = rest;
         }
-        Outcome {
+        SetResult {
             outcome: 0,
             number: 0,
         }

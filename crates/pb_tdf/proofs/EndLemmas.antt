@@ -12,8 +12,8 @@ use Rattle.pb_tdf.proofs.ItemLemmas.{item-ok, ok_is, done_is}
 use Rattle.pb_tdf.specs.Inside.Progress.{HasRead, IsTableSoFar, to_fields}
 use Rattle.pb_tdf.proofs.PrefixLemmas.{HasRead-reaches}
 
-abbrev Outcome : Type 0
-Outcome = Result (Definition × Unread) TdfFault
+abbrev pub TableRead : Type 0
+TableRead = Result (Definition × Unread) TdfFault
 
 -- the table was read to its end
 pub record HasEnded (bytes : List ℕ) (start limit : ℕ) (x : Definition × Unread) : Type 0 where
@@ -31,11 +31,11 @@ leads-on-alone : {A B : Type 0} (r : Result (A × Unread) TdfFault) (on : A → 
 leads-on-alone (Ok y) on x e = absurd cc
 leads-on-alone (Err fault) on x e = absurd cc
 
-on-either : {B : Type 0} (b : Bool) (s t : Point) (x : Outcome) → cond b (On s) (On t) ≡ Done x → B
+on-either : {B : Type 0} (b : Bool) (s t : Point) (x : TableRead) → cond b (On s) (On t) ≡ Done x → B
 on-either true s t x e = absurd cc
 on-either false s t x e = absurd cc
 
-cond-done : (b : Bool) (x y : Outcome) (t : Point) → cond b (Done x) (On t) ≡ Done y → (b ≡ true) × (x ≡ y)
+cond-done : (b : Bool) (x y : TableRead) (t : Point) → cond b (Done x) (On t) ≡ Done y → (b ≡ true) × (x ≡ y)
 cond-done true x y t e = (refl, done_is x y e)
 cond-done false x y t e = absurd cc
 

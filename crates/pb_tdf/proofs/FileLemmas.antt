@@ -21,7 +21,8 @@ use Rattle.pb_tdf.specs.Refusal.{IsRefused, IsRefusedAfter, VersionedFault, File
 use Rattle.pb_tdf.proofs.PrefixLemmas.{flat_map-last, All-last}
 use Rattle.pb_tdf.proofs.PathLemmas.{table-comes}
 use Rattle.pb_tdf.proofs.ItemLemmas.{one_outcome}
-use Rattle.pb_tdf.proofs.RefusalLemmas.{limited, Outcome, was-table, table-once, table-outcome, never, memory-alone}
+use Rattle.pb_tdf.proofs.EndLemmas.{TableRead}
+use Rattle.pb_tdf.proofs.RefusalLemmas.{limited, was-table, table-once, table-outcome, never, memory-alone}
 
 -- ---- limits
 
@@ -179,7 +180,7 @@ file-only bytes (Err fault) found refused ds is = memory-alone (FileFault bytes)
 
 -- ---- a file has one fault at most
 
-err_is : (x y : TdfFault) → (let o : Outcome = Err x in let r : Outcome = Err y in o ≡ r) → x ≡ y
+err_is : (x y : TdfFault) → (let o : TableRead = Err x in let r : TableRead = Err y in o ≡ r) → x ≡ y
 err_is x y e = cc
 
 -- a table is refused after these, of which so many came before, and the first began at a place

@@ -14,15 +14,12 @@ use Rattle.pb_tdf.specs.Inside.Passing.{MakesTable}
 use Rattle.pb_tdf.specs.Refusal.{IsRefused, IsFollowed, TableFault, ReadsTable}
 use Rattle.pb_tdf.proofs.ItemLemmas.{one_outcome}
 use Rattle.pb_tdf.proofs.PathLemmas.{table-comes}
-use Rattle.pb_tdf.proofs.EndLemmas.{has_ended}
-
-abbrev pub Outcome : Type 0
-Outcome = Result (Definition × Unread) TdfFault
+use Rattle.pb_tdf.proofs.EndLemmas.{TableRead, has_ended}
 
 abbrev pub limited : Unread → ℕ → Limited
 limited u limit = record { left = u; limit = limit }
 
-abbrev reads : Definition × Unread → Outcome
+abbrev reads : Definition × Unread → TableRead
 reads x = Ok x
 
 ok_is : (x y : Definition × Unread) → reads x ≡ reads y → x ≡ y
@@ -55,7 +52,7 @@ was-table limit u d v fits near c =
     }
 
 -- a table's bytes are read as that table, and as nothing else
-pub table-outcome : (limit at : ℕ) (d : Definition) (more : List ℕ) (o : Outcome) → IsTable d → at + length (table_bytes d) ≤ limit → ComesTo limit (table_begins (unread at (table_bytes d ++ more))) o
+pub table-outcome : (limit at : ℕ) (d : Definition) (more : List ℕ) (o : TableRead) → IsTable d → at + length (table_bytes d) ≤ limit → ComesTo limit (table_begins (unread at (table_bytes d ++ more))) o
     → Ok (d, unread (at + length (table_bytes d)) more) ≡ o
 table-outcome limit at d more o is fits c =
     let k = table-comes limit at d more is.formed is.within fits in
@@ -93,7 +90,7 @@ pub one-table-fault : (bytes : List ℕ) (f g : TdfFault) → TableFault bytes f
 one-table-fault bytes f g (inl p) (inl q) =
     err_is f g (one_outcome table_bytes_max (table_begins (whole bytes)) p.last q.last (Err f) (Err g) p.items p.ends q.items q.ends)
   where
-    err_is : (x y : TdfFault) → (let o : Outcome = Err x in let r : Outcome = Err y in o ≡ r) → x ≡ y
+    err_is : (x y : TdfFault) → (let o : TableRead = Err x in let r : TableRead = Err y in o ≡ r) → x ≡ y
     err_is x y e = cc
 one-table-fault bytes f g (inl p) (inr q) = mixed bytes f g p q
   where

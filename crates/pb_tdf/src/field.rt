@@ -1,7 +1,7 @@
 //! A field of a table, as it is handed out.
 ghost use Rattle.std.specs.Prelude.{◌≡◌, length};
 ghost use Rattle.pb_tdf.specs.Inside.Kept.{field_at, Lies};
-ghost use Rattle.pb_tdf.specs.Seen.{seen};
+ghost use Rattle.pb_tdf.specs.Seen.{seen_of};
 
 use crate::place::FieldPlace;
 
@@ -21,7 +21,7 @@ pub struct Field<'a> {
 /// The field at a place of a table's bytes.
 pub fn field_of(bytes: &[u8], place: FieldPlace) -> Field
     requires { Lies (length bytes.now) place }
-    ensures { seen result ≡ field_at bytes.now place }
+    ensures { seen_of result ≡ field_at bytes.now place }
 {
     let at = place.at as usize;
     let type_byte = bytes[at];

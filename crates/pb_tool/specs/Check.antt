@@ -35,7 +35,8 @@ stop_text (Some stop) = codes " stopped\n"
 -- ` front F kept K gap G`, and ` stopped` where the table has a stop
 unfoldable pub numbers_text : Held → List ℕ
 numbers_text t =
-    joined (codes " front " ∷ decimal t.front ∷ codes " kept " ∷ decimal (t.front - t.gaps) ∷ codes " gap " ∷ decimal t.gaps ∷ stop_text t.stop ∷ [])
+    joined (codes " front " ∷ decimal t.front ∷ codes " kept " ∷ decimal (t.front - t.gaps) ∷ codes " gap "
+    ∷ decimal t.gaps ∷ stop_text t.stop ∷ [])
 
 -- `STATION TABLE front F kept K gap G`
 unfoldable pub table_text : Plan → Held → List ℕ

@@ -9,7 +9,8 @@ use Rattle.pb_tool.specs.declared.status.Status.TheVariants.{Usage, WriteFault}
 -- a closing line was written, or a front of it where the answer isn't the status that it stands for
 abbrev pub Closes : Status → Status → List ℕ → Option (List ℕ) → Option (List ℕ) → Type 0
 Closes status result line written_old written_new =
-    ((result ≡ status) × Appends written_old written_new line) ⊎ ((result ≡ WriteFault) × AppendsPrefix written_old written_new line)
+    ((result ≡ status) × Appends written_old written_new line)
+    ⊎ ((result ≡ WriteFault) × AppendsPrefix written_old written_new line)
 
 -- all that was added to a page was written, or the answer says that a write failed
 abbrev pub Finished : Status → Status → Waiting → Type 0

@@ -78,16 +78,19 @@ pub record RefusesLine (left_old left_new : Option (List ℕ)) (line : ℕ) : Ty
 
 -- What an answer means, of the file and of the input.
 abbrev pub Means : Result Unit InitFault → (file_old file_new left_old left_new : Option (List ℕ)) → Type 0
-Means (Ok done) file_old file_new left_old left_new = (plan : Plan) × IsPlanOf left_old left_new plan × Changes (Inits plan) file_old file_new
+Means (Ok done) file_old file_new left_old left_new = (plan : Plan) × IsPlanOf left_old left_new plan
+    × Changes (Inits plan) file_old file_new
 Means (Err (Input fault)) file_old file_new left_old left_new = InputRefuses plan_text_max left_old left_new fault
 Means (Err (Line n)) file_old file_new left_old left_new = RefusesLine left_old left_new n
-Means (Err (Archive fault)) file_old file_new left_old left_new = ((plan : Plan) × IsPlanOf left_old left_new plan) × InitRefuses file_old fault
+Means (Err (Archive fault)) file_old file_new left_old left_new = ((plan : Plan) × IsPlanOf left_old left_new plan)
+    × InitRefuses file_old fault
 Means (Err Memory) file_old file_new left_old left_new = ⊤
 
 -- What a crash may leave: the disk wasn't touched; or a file with the entries that it had, or, where it had no archive,
 -- none or that of the plan.
 abbrev pub MayLeaveBy : (left_old left_new : Option (List ℕ)) → View → View → Type 0
-MayLeaveBy left_old left_new old new = LeavesOnly old new (SendsAtMost [] old) ⊎ ((plan : Plan) × IsPlanOf left_old left_new plan × Leaves (KeepsOrInits plan) old new)
+MayLeaveBy left_old left_new old new = LeavesOnly old new (SendsAtMost [] old)
+    ⊎ ((plan : Plan) × IsPlanOf left_old left_new plan × Leaves (KeepsOrInits plan) old new)
 
 -- One count: it rose where the answer says so, and stays with any other answer.
 pub record CountsOf (answer : Result Unit InitFault) (reads_old reads_new disk_old disk_new : ℕ) : Type 0 where

@@ -84,7 +84,9 @@ named_text name tran keys = joined (name ∷ codes " tran " ∷ decimal tran ∷
 -- ---- PakCtrl
 
 abbrev pub greeting_keys : (router metric verify : ℕ) → List Key
-greeting_keys router metric verify = key (codes "router") (Number router) ∷ key (codes "metric") (Number metric) ∷ key (codes "verify") (Number verify) ∷ []
+greeting_keys router metric verify =
+    key (codes "router") (Number router) ∷ key (codes "metric") (Number metric) ∷ key (codes "verify") (Number verify)
+    ∷ []
 
 abbrev pub failure_keys : ctrl.FailureKeys → List Key
 failure_keys f =
@@ -97,12 +99,18 @@ ctrl_text (ctrl.HelloReply tran router metric verify) = named_text (codes "hello
 ctrl_text (ctrl.Bye tran) = named_text (codes "bye") tran []
 ctrl_text (ctrl.HelloRequest tran) = named_text (codes "hello-request") tran []
 ctrl_text (ctrl.Failure tran f) = named_text (codes "failure") tran (failure_keys f)
-ctrl_text (ctrl.GetSettings tran code first) = named_text (codes "get-settings") tran (key (codes "code") (Number code) ∷ key (codes "first") (Number first) ∷ [])
+ctrl_text (ctrl.GetSettings tran code first) =
+    named_text (codes "get-settings") tran (key (codes "code") (Number code) ∷ key (codes "first") (Number first) ∷ [])
 ctrl_text (ctrl.GetSettingsReply tran outcome more settings) =
-    named_text (codes "get-settings-reply") tran (key (codes "outcome") (Number outcome) ∷ key (codes "more") (Number more) ∷ key (codes "settings") (Settings settings) ∷ [])
-ctrl_text (ctrl.SetSettings tran code settings) = named_text (codes "set-settings") tran (key (codes "code") (Number code) ∷ key (codes "settings") (Settings settings) ∷ [])
+    named_text (codes "get-settings-reply") tran
+    (key (codes "outcome") (Number outcome) ∷ key (codes "more") (Number more)
+    ∷ key (codes "settings") (Settings settings) ∷ [])
+ctrl_text (ctrl.SetSettings tran code settings) =
+    named_text (codes "set-settings") tran
+    (key (codes "code") (Number code) ∷ key (codes "settings") (Settings settings) ∷ [])
 ctrl_text (ctrl.SetSettingsReply tran outcome number) =
-    named_text (codes "set-settings-reply") tran (key (codes "outcome") (Number outcome) ∷ key (codes "number") (Number number) ∷ [])
+    named_text (codes "set-settings-reply") tran
+    (key (codes "outcome") (Number outcome) ∷ key (codes "number") (Number number) ∷ [])
 
 -- ---- BMP5
 
@@ -157,18 +165,25 @@ answer_keys (suc resp) keys = key (codes "resp") (Number (suc resp)) ∷ []
 
 abbrev pub bmp5_text : bmp5.Message → List ℕ
 bmp5_text (bmp5.Collect tran c) =
-    named_text (codes "collect") tran (collect_keys c) ++ (keys_text (mode_keys c.mode) ++ keys_text (key (codes "fields") (Numbers c.fields) ∷ []))
-bmp5_text (bmp5.CollectReply tran resp bytes) = named_text (codes "collect-reply") tran (answer_keys resp (key (codes "bytes") (Bytes bytes) ∷ []))
-bmp5_text (bmp5.Clock tran code adjust) = named_text (codes "clock") tran (key (codes "code") (Number code) ∷ key (codes "adjust") (Time adjust) ∷ [])
-bmp5_text (bmp5.ClockReply tran resp time) = named_text (codes "clock-reply") tran (answer_keys resp (key (codes "time") (Time time) ∷ []))
+    named_text (codes "collect") tran (collect_keys c)
+    ++ (keys_text (mode_keys c.mode) ++ keys_text (key (codes "fields") (Numbers c.fields) ∷ []))
+bmp5_text (bmp5.CollectReply tran resp bytes) =
+    named_text (codes "collect-reply") tran (answer_keys resp (key (codes "bytes") (Bytes bytes) ∷ []))
+bmp5_text (bmp5.Clock tran code adjust) =
+    named_text (codes "clock") tran (key (codes "code") (Number code) ∷ key (codes "adjust") (Time adjust) ∷ [])
+bmp5_text (bmp5.ClockReply tran resp time) =
+    named_text (codes "clock-reply") tran (answer_keys resp (key (codes "time") (Time time) ∷ []))
 bmp5_text (bmp5.Stats tran code) = named_text (codes "stats") tran (key (codes "code") (Number code) ∷ [])
 bmp5_text (bmp5.StatsReply tran resp s) = named_text (codes "stats-reply") tran (answer_keys resp (stats_keys s))
 bmp5_text (bmp5.Download tran d) = named_text (codes "download") tran (download_keys d)
-bmp5_text (bmp5.DownloadReply tran resp offset) = named_text (codes "download-reply") tran (answer_keys resp (key (codes "offset") (Number offset) ∷ []))
+bmp5_text (bmp5.DownloadReply tran resp offset) =
+    named_text (codes "download-reply") tran (answer_keys resp (key (codes "offset") (Number offset) ∷ []))
 bmp5_text (bmp5.Upload tran u) = named_text (codes "upload") tran (upload_keys u)
 bmp5_text (bmp5.UploadReply tran resp offset bytes) =
-    named_text (codes "upload-reply") tran (answer_keys resp (key (codes "offset") (Number offset) ∷ key (codes "bytes") (Bytes bytes) ∷ []))
-bmp5_text (bmp5.Wait tran kind seconds) = named_text (codes "wait") tran (key (codes "kind") (Number kind) ∷ key (codes "seconds") (Number seconds) ∷ [])
+    named_text (codes "upload-reply") tran
+    (answer_keys resp (key (codes "offset") (Number offset) ∷ key (codes "bytes") (Bytes bytes) ∷ []))
+bmp5_text (bmp5.Wait tran kind seconds) =
+    named_text (codes "wait") tran (key (codes "kind") (Number kind) ∷ key (codes "seconds") (Number seconds) ∷ [])
 
 -- ---- what a packet carries
 

@@ -50,7 +50,8 @@ pub record HelloFails (me node : ℕ) (cause : Cause) (events : World) : Type 0 
 
 -- there is no time: no answer, for this cause, or one with a response code that isn't 0
 abbrev pub NoClock : (me node : ℕ) → Cause → Greeting → World → Type 0
-NoClock me node (Refused code) greeting events = (code ≢ 0) × ((time : Nsec) × AsksClock me node greeting events (outcome.Answer (record { resp = code; time = time })))
+NoClock me node (Refused code) greeting events = (code ≢ 0)
+    × ((time : Nsec) × AsksClock me node greeting events (outcome.Answer (record { resp = code; time = time })))
 NoClock me node cause greeting events = (o : Outcome Reading) × (answered o ≡ Err cause) × AsksClock me node greeting events o
 
 -- a call of the link failed at the hello
@@ -70,9 +71,12 @@ pub record StopsAtClock (me node : ℕ) (events : World) : Type 0 where
 
 -- the events of the call, and its answer
 abbrev pub Pings : ℕ → ℕ → World → Result Pinged PingFault → Type 0
-Pings me node events (Ok p) = AsksClock me node (record { router = p.router; metric = p.metric; verify = p.verify }) events (outcome.Answer (record { resp = 0; time = p.time }))
+Pings me node events (Ok p) =
+    AsksClock me node (record { router = p.router; metric = p.metric; verify = p.verify }) events
+    (outcome.Answer (record { resp = 0; time = p.time }))
 Pings me node events (Err (fault.Hello cause)) = HelloFails me node cause events
-Pings me node events (Err (fault.Clock cause router metric verify)) = NoClock me node cause (record { router = router; metric = metric; verify = verify }) events
+Pings me node events (Err (fault.Clock cause router metric verify)) =
+    NoClock me node cause (record { router = router; metric = metric; verify = verify }) events
 Pings me node events (Err fault.LinkFault) = StopsAtHello me node events ⊎ StopsAtClock me node events
 
 -- The world grew by these events, which mean this answer; the count of quiet ticks rose by theirs, also where the world

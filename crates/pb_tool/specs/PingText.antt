@@ -18,7 +18,8 @@ use Rattle.pb_value.specs.TimeText.{time_text}
 -- `hello NODE router B metric B verify H`
 unfoldable pub hello_text : (node router metric verify : ℕ) → List ℕ
 hello_text node router metric verify = joined (
-    codes "hello " ∷ decimal node ∷ codes " router " ∷ decimal router ∷ codes " metric " ∷ decimal metric ∷ codes " verify " ∷ decimal verify ∷ codes "\n" ∷ [])
+    codes "hello " ∷ decimal node ∷ codes " router " ∷ decimal router ∷ codes " metric " ∷ decimal metric
+    ∷ codes " verify " ∷ decimal verify ∷ codes "\n" ∷ [])
 
 -- `clock NODE TIME`
 unfoldable pub clock_text : ℕ → Nsec → List ℕ

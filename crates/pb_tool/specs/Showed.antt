@@ -58,14 +58,21 @@ FindsEnd _ before now = EndsOnce before now
 -- `show`: no other status comes. After a failed write a front of one of two texts was written: of all that `show`
 -- writes, or, where a read failed, of whole lines from its front and the closing line.
 abbrev pub Showed : Status → Option (List ℕ) → Option (List ℕ) → Option (List ℕ) → Option (List ℕ) → Type 0 → Type 0
-Showed Done left_old left_new written_old written_new read_failed = IsAtEnd left_new × IfSome left_old (ShowsAll false left_new written_old written_new)
-Showed Format left_old left_new written_old written_new read_failed = IfSome left_old (ShowsAll true left_new written_old written_new)
-Showed ReadFault left_old left_new written_old written_new read_failed = IfSome left_old (ShowsTaken left_new written_old written_new)
-Showed WriteFault left_old left_new written_old written_new read_failed = IfSome left_old (λ input. AppendsPrefix written_old written_new (written_of input) ⊎ (read_failed × ShowsFront written_old written_new input))
+Showed Done left_old left_new written_old written_new read_failed = IsAtEnd left_new
+    × IfSome left_old (ShowsAll false left_new written_old written_new)
+Showed Format left_old left_new written_old written_new read_failed =
+    IfSome left_old (ShowsAll true left_new written_old written_new)
+Showed ReadFault left_old left_new written_old written_new read_failed =
+    IfSome left_old (ShowsTaken left_new written_old written_new)
+Showed WriteFault left_old left_new written_old written_new read_failed =
+    IfSome left_old
+    (λ input. AppendsPrefix written_old written_new (written_of input)
+    ⊎ (read_failed × ShowsFront written_old written_new input))
 Showed _ left_old left_new written_old written_new read_failed = ⊥
 
 -- the row of `show`
 pub record RanShow (result : Status) (before after : Streams) : Type 0 where
-  pub showed : Showed result before.input.left after.input.left before.out.written after.out.written (Rose before.input.faults after.input.faults)
+  pub showed : Showed result before.input.left after.input.left before.out.written after.out.written
+      (Rose before.input.faults after.input.faults)
   pub turns : IfSome before.input.left (TakesTurns after.input.left before.out.written after.out.written)
   pub ends : FindsEnd result before.input.ends after.input.ends

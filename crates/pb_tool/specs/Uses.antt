@@ -27,7 +27,8 @@ uses (Some Check) = record { input = false; disk = true; link = false }
 uses (Some (Ping me node)) = record { input = false; disk = false; link = true }
 
 -- What the command doesn't use is as it was.
-pub record Leaves {S I : Type 0} (d : disk.Ghosts S) (u : Uses) (site_old : S) (input_old : I) (site_new : S) (input_new : I) : Type 0 where
+pub record Leaves {S I : Type 0} (d : disk.Ghosts S) (u : Uses) (site_old : S) (input_old : I) (site_new : S)
+    (input_new : I) : Type 0 where
   pub input : OnFalse u.input (input_new ≡ input_old)
   pub site : OnFalse (u.disk || u.link) (site_new ≡ site_old)
   pub disk : OnFalse u.disk (ReadsOnly (d.view site_old) (d.view site_new))

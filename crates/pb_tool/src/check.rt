@@ -77,7 +77,8 @@ fn push_table_at<O: Sink>(page: &mut Page, archive: &Archive, id: TableId, out: 
 // Adds the line of a table.
 #[tactic(auto, unfolding(crate::specs::Check::table_text))]
 fn push_table<O: Sink>(page: &mut Page, archive: &Archive, table: TableView, out: &mut O)
-    ensures { Adds (table_text archive.now.plan (seen_table table.entry)) (printing O.Sink page.old out.old) (printing O.Sink page.new out.new) }
+    ensures { Adds (table_text archive.now.plan (seen_table table.entry)) (printing O.Sink page.old out.old)
+        (printing O.Sink page.new out.new) }
 {
     push_escaped(page, name_of(archive, table.station), out);
     page.push(b" ", out);

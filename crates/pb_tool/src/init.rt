@@ -57,7 +57,8 @@ fn make<S: Site, I: Source>(alloc: Global, site: &mut S, input: &mut I) -> Resul
     ensures means { Means result (S.view site.old).file (S.view site.new).file (I.left input.old) (I.left input.new) }
     ensures leaves { MayLeaveBy (I.left input.old) (I.left input.new) (S.view site.old) (S.view site.new) }
     ensures link { (S.view site.new).link ≡ (S.view site.old).link }
-    ensures counts { CountsOf result (I.read_faults input.old) (I.read_faults input.new) (S.view site.old).faults (S.view site.new).faults }
+    ensures counts { CountsOf result (I.read_faults input.old) (I.read_faults input.new) (S.view site.old).faults
+        (S.view site.new).faults }
 {
     let text = match read_whole(alloc, input, PLAN_TEXT_MAX) {
         Ok(text) => text,

@@ -68,7 +68,8 @@ pub record IsOver (asked : Asked) (limits : Limits) (inputs : List Input) : Type
 abbrev pub AreOver : Asked → Limits → ℕ → List Input → Type 0
 AreOver asked limits zero inputs = inputs ≡ []
 AreOver asked limits (suc n) inputs =
-    (earlier : List Input) × (last : List Input) × AreOver asked limits n earlier × IsOver asked limits last × (inputs ≡ earlier ++ last)
+    (earlier : List Input) × (last : List Input) × AreOver asked limits n earlier × IsOver asked limits last
+        × (inputs ≡ earlier ++ last)
 
 -- what an exchange knows: how often was sent, and since then how many quiet ticks are still to be heard, and the bytes
 pub record Waiting : Type 0 where

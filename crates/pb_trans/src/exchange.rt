@@ -52,7 +52,8 @@ impl Exchange {
     pub fn hear(&mut self, header: &Header, message: &[u8]) -> Step
         ensures means { Means self.old.asked header.now message.now result }
         ensures hears { Hears self.old header.now message.now self.new }
-        ensures stands { (inputs : List Input) → StandsFor self.old inputs → StandsFor self.new (inputs ++ Packet header.now message.now ∷ []) }
+        ensures stands { (inputs : List Input) → StandsFor self.old inputs
+            → StandsFor self.new (inputs ++ Packet header.now message.now ∷ []) }
         ensures few { self.new.due ≤ self.new.limits.quiets + 60 }
     {
         let step = meaning(&self.asked, header, message);

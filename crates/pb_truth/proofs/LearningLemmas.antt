@@ -15,24 +15,24 @@ use Rattle.pb_bmp5.specs.CollectReply.{SeenFragment, whole, part, SeenReply, Are
 use Rattle.pb_bmp5.specs.TrueReply.{Stage, IsStage, HasNone, BeginsAt, Answers, HoldsPart, Holds, IsTrueAnswer}
 use Rattle.pb_bmp5.proofs.LeadingLemmas.{leading-number}
 use Rattle.pb_archive.specs.Archive.{Table, front, grown, record_layout}
-use Rattle.pb_archive.specs.Truth.{IsContentOf, AllFit, SoundTable}
+use Rattle.pb_archive.specs.Truth.{IsContentOf, RowsAreTrue, SoundTable}
 use Rattle.pb_truth.specs.Asked.{AsksFromAtMost}
 use Rattle.pb_truth.specs.Learning.{Known, without_partial, BeginsContent, SoundKnown, BeginsFrom, BeginsWithPart, FitsNext, FitsKnown, joined, taken, learned}
 
 -- ---- rows that fit
 
-fit-append : (h : History) (n : ℕ) (xs ys : List (Option (List ℕ))) → AllFit h n xs → AllFit h (n + length xs) ys → AllFit h n (xs ++ ys)
-fit-append h n [] ys a b = subst (λ i. AllFit h i ys) (omega arith) b
-fit-append h n (x ∷ xs) ys a b = (a.0, fit-append h (suc n) xs ys a.1 (subst (λ i. AllFit h i ys) (omega arith) b))
+fit-append : (h : History) (n : ℕ) (xs ys : List (Option (List ℕ))) → RowsAreTrue h n xs → RowsAreTrue h (n + length xs) ys → RowsAreTrue h n (xs ++ ys)
+fit-append h n [] ys a b = subst (λ i. RowsAreTrue h i ys) (omega arith) b
+fit-append h n (x ∷ xs) ys a b = (a.0, fit-append h (suc n) xs ys a.1 (subst (λ i. RowsAreTrue h i ys) (omega arith) b))
 
-gaps_fit : (h : History) (n d : ℕ) → (d ≡ 0) ⊎ (n + d ≤ h.oldest) → AllFit h n (replicate d None)
+gaps_fit : (h : History) (n d : ℕ) → (d ≡ 0) ⊎ (n + d ≤ h.oldest) → RowsAreTrue h n (replicate d None)
 gaps_fit h n zero le = tt
 gaps_fit h n (suc d) (inl none) = absurd (omega (arith, none))
 gaps_fit h n (suc d) (inr le) = (omega (arith, le), gaps_fit h (suc n) d (inr (omega (arith, le))))
 
 -- records that lie one after another, from a number on
 contents_fit : (h : History) (n : ℕ) (rs : List StoredRecord) → ((i : ℕ) (r : StoredRecord) → slice_get rs i ≡ Some r → slice_get h.records (n + i) ≡ Some r)
-    → AllFit h n (map Some (map content rs))
+    → RowsAreTrue h n (map Some (map content rs))
 contents_fit h n [] at = tt
 contents_fit h n (r ∷ rs) at = (
   record { stored = r; is = subst (λ i. slice_get h.records i ≡ Some r) (omega arith) (at 0 r refl); same = refl },
@@ -63,7 +63,7 @@ pub length-run : (layout : Layout) (n : ℕ) (bytes : List ℕ) → length (run_
 length-run layout n bytes = length-map (cut_records layout n bytes) content ∙ length-records layout bytes 0 n
 
 run_fits : (layout : Layout) (h : History) (first n : ℕ) (bytes : List ℕ) → cut_records layout n bytes ≡ take n (drop first h.records)
-    → AllFit h first (map Some (run_contents layout n bytes))
+    → RowsAreTrue h first (map Some (run_contents layout n bytes))
 run_fits layout h first n bytes same =
     contents_fit h first (cut_records layout n bytes)
     (λ i r is. dropped_at first h.records i r (taken_at n (drop first h.records) i r (subst (λ rs. slice_get rs i ≡ Some r) same is)))
@@ -86,14 +86,14 @@ front-grown first cs t low =
 
 -- what a station held at one moment is added: from the front on, or after a gap where it held nothing lower
 pub sound_grown : (t : Table) (h : History) (stage : Stage) (first : ℕ) (cs : List (List ℕ)) → SoundTable t h → IsStage h stage → front t ≤ first
-    → (first ≤ front t) ⊎ (first ≤ stage.oldest) → first + length cs ≤ stage.next → AllFit h first (map Some cs) → SoundTable (grown first cs t) h
+    → (first ≤ front t) ⊎ (first ≤ stage.oldest) → first + length cs ≤ stage.next → RowsAreTrue h first (map Some cs) → SoundTable (grown first cs t) h
 sound_grown t h stage first cs sound lies low start high fit = record {
   below = omega (arith, front-grown first cs t low, high, lies.stored);
   fit = fit-append h 0 t.rows (replicate (first - length t.rows) None ++ map Some cs) sound.fit
-      (subst (λ i. AllFit h i (replicate (first - length t.rows) None ++ map Some cs)) (omega arith)
+      (subst (λ i. RowsAreTrue h i (replicate (first - length t.rows) None ++ map Some cs)) (omega arith)
       (fit-append h (length t.rows) (replicate (first - length t.rows) None) (map Some cs)
       (gaps_fit h (length t.rows) (first - length t.rows) (⊎_elim (λ e. inl (omega (arith, e))) (λ e. inr (omega (arith, e, low, lies.overwritten))) start))
-      (subst (λ i. AllFit h i (map Some cs)) (omega (arith, low, length-replicate (first - length t.rows) gap)) fit)));
+      (subst (λ i. RowsAreTrue h i (map Some cs)) (omega (arith, low, length-replicate (first - length t.rows) gap)) fit)));
 }
 
 -- ---- parts

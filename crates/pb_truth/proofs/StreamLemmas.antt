@@ -5,7 +5,7 @@ use Rattle.std.specs.List.{Contains}
 use Rattle.std.proofs.lemmas.List.{take_at}
 use Rattle.std.proofs.lemmas.List.Elements.{All-nil, All-cons, All-contains, Contains-append_cases, Contains-push, Contains-push_cases}
 use Rattle.pb_frame.specs.Signature.{start, sig, null}
-use Rattle.pb_frame.specs.Framing.{flag, quote, Quoted, nothing, plain, quote_quoted, flag_quoted, quoted, frame, cut, Piece, piece_of, has_next, placed, pieces, IsBodySize, IsContentSize, IsGood, content_of, Outcome, Whole, outcome, Verdict, verdict_of, verdicts}
+use Rattle.pb_frame.specs.Framing.{flag, quote, Quoted, nothing, plain, quote_quoted, flag_quoted, quoted, frame, cut, Piece, piece_of, has_next, placed, pieces, IsBodySize, IsContentSize, IsGood, content_of, Finding, Whole, outcome, Verdict, verdict_of, verdicts}
 use Rattle.pb_frame.specs.Hearing.{HasNoFlag}
 use Rattle.pb_frame.specs.Faults.{IsPiece}
 use Rattle.pb_frame.proofs.FrameLemmas.{frame-heard}
@@ -25,7 +25,7 @@ from_one f (x ∷ xs) y has =
     (λ later. let one = from_one f xs y later in (one.0, (suc one.1.0, omega (arith, one.1.1), one.1.2), one.2))
     (Contains-append_cases (f x) (flat_map f xs) y has)
 
-outcome_of_verdict : (at : ℕ) (o : Option Outcome) (v : Verdict) → Contains (option_to_list (option_map (λ x. record { piece = at; outcome = x }) o)) v → o ≡ Some v.outcome
+outcome_of_verdict : (at : ℕ) (o : Option Finding) (v : Verdict) → Contains (option_to_list (option_map (λ x. record { piece = at; outcome = x }) o)) v → o ≡ Some v.outcome
 outcome_of_verdict at None v has = absurd (none_there v has)
 outcome_of_verdict at (Some o) v has = ap (λ (x : Verdict). Some x.outcome) (only_one (record { piece = at; outcome = o }) v has)
 

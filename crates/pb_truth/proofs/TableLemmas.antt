@@ -9,7 +9,7 @@ use Rattle.pb_archive.specs.declared.plan.StationPlan.{StationPlan}
 use Rattle.pb_archive.specs.Plan.{Plan, Differs, AreDifferent, IsPlan}
 use Rattle.pb_archive.specs.Archive.{Table, Archive, record_layout, changed_at, grown, stopped}
 use Rattle.pb_archive.specs.Entry.{Change, Added, Advanced, Stopped, contents, IsAllowed, created, address_of, new_table, archive_after, Leads, IsArchive}
-use Rattle.pb_archive.specs.Truth.{AllFit, SoundTable, Sound}
+use Rattle.pb_archive.specs.Truth.{RowsAreTrue, SoundTable, Sound}
 use Rattle.pb_truth.specs.Asked.{HasOneEach}
 use Rattle.pb_truth.specs.Image.{StaysTrue}
 
@@ -160,12 +160,12 @@ sound_after w a (Stopped id stop) sound stays = λ place u is.
 
 -- ---- fewer rows
 
-fit_front : (h : History) (n : ℕ) (xs ys : List (Option (List ℕ))) → AllFit h n (xs ++ ys) → AllFit h n xs
+fit_front : (h : History) (n : ℕ) (xs ys : List (Option (List ℕ))) → RowsAreTrue h n (xs ++ ys) → RowsAreTrue h n xs
 fit_front h n [] ys fit = tt
 fit_front h n (x ∷ xs) ys fit = (fit.0, fit_front h (suc n) xs ys fit.1)
 
 pub sound_front : (t u : Table) (h : History) → IsFront t.rows u.rows → SoundTable u h → SoundTable t h
 sound_front t u h (more, same) sound = record {
   below = omega (arith, sound.below, ap length same, length-append t.rows more);
-  fit = fit_front h 0 t.rows more (subst (λ l. AllFit h 0 l) same sound.fit);
+  fit = fit_front h 0 t.rows more (subst (λ l. RowsAreTrue h 0 l) same sound.fit);
 }

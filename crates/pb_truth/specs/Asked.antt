@@ -8,29 +8,15 @@ use Rattle.pb_frame.specs.Framing.{Whole, verdicts}
 use Rattle.pb_packet.specs.declared.headers.Header.{Header}
 use Rattle.pb_packet.specs.declared.headers.TheConstants.{PROTO_BMP5}
 use Rattle.pb_packet.specs.Packet.{full, PacketBytes}
-use Rattle.pb_bmp5.specs.declared.message.Mode.{Mode as WireMode}
-use Rattle.pb_bmp5.specs.declared.message.Mode.TheVariants as wire
+use Rattle.pb_bmp5.specs.Asking.{request_by}
 use Rattle.pb_bmp5.specs.Message.{Collect, CollectKeys, MessageReads}
 use Rattle.pb_archive.specs.Archive.{Table, Archive, front}
 
 -- ---- what was asked
 
-abbrev pub asked_mode : WireMode → Mode
-asked_mode wire.All = asked.All
-asked_mode (wire.From number) = asked.From number
-asked_mode (wire.Newest count) = asked.Newest count
-asked_mode (wire.Range from to) = asked.Range from to
-asked_mode (wire.Times from to) = asked.Times from to
-asked_mode (wire.Part number offset) = asked.Part number offset
-
 -- what a collect command in a packet asks for
 abbrev pub request_of : Header → ℕ → CollectKeys → Request
-request_of header tran keys = record {
-  me = header.src;
-  table = record { station = header.dst; number = keys.table; signature = keys.sig };
-  tran = tran;
-  mode = asked_mode keys.mode;
-}
+request_of header tran keys = request_by header.src header.dst tran keys
 
 -- the content is a packet of BMP5 with this collect command
 pub record AsksFor (content : List ℕ) (r : Request) : Type 0 where

@@ -2,7 +2,7 @@
 ghost use Rattle.std.specs.Prelude.{◌≡◌, ◌≤◌, ◌<◌, ◌++◌, [], List, Option, drop, length, IfSome, IfNone};
 ghost use Rattle.pb_tdf.specs.View.{IsDefined};
 ghost use Rattle.std.specs.Iterator.{YieldsFirstBy, item_count};
-ghost use Rattle.pb_tdf.specs.Seen.{seen};
+ghost use Rattle.pb_tdf.specs.Seen.{seen_of};
 ghost use Rattle.pb_value.specs.Values.{shapes, field_shapes, values_of, IsRecordOf};
 ghost use Rattle.pb_value.specs.ValueText.{HasText};
 ghost use Rattle.std.specs.List.{AllByRecursion, flat_map};
@@ -119,7 +119,7 @@ fn next_run(table: &Table, from: usize) -> Option<(Run, usize)>
 }
 
 fn run_of(field: Field) -> Run
-    ensures { run_shapes result ≡ field_shapes (seen field.entry) }
+    ensures { run_shapes result ≡ field_shapes (seen_of field.entry) }
 {
     if field.kind == ASCII {
         return Run {

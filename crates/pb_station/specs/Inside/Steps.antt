@@ -2,7 +2,7 @@
 use Rattle.std.specs.Prelude.{◌≡◌, ℕ, Bool, true, false, suc, List, ◌∷◌, ◌++◌, drop, Option, Some, None}
 use Rattle.pb_base.specs.declared.nsec.Nsec.{Nsec}
 use Rattle.pb_base.specs.Time.{time_later}
-use Rattle.pb_station.specs.declared.settings.Outcome.{Outcome}
+use Rattle.pb_station.specs.declared.settings.SetResult.{SetResult}
 use Rattle.pb_station.specs.State.{File, DeviceState, KeptTable}
 use Rattle.pb_station.specs.Clock.{has_sum}
 use Rattle.pb_station.specs.Files.{Downloaded}
@@ -28,7 +28,7 @@ WasAdjusted old adjust new None = (has_sum old.clock adjust ≡ false) × (new �
 abbrev pub DeviceBecomes : Downloaded → DeviceState → DeviceState → ℕ → Type 0
 DeviceBecomes d old new resp = (new ≡ record old { files = d.files }) × (resp ≡ d.resp)
 
-abbrev pub WereAllSet : WereSet → DeviceState → Outcome → Type 0
+abbrev pub WereAllSet : WereSet → DeviceState → SetResult → Type 0
 WereAllSet s new o = (new ≡ s.device) × (o.outcome ≡ s.outcome) × (o.number ≡ s.number)
 
 -- the bytes begin with this setting, and the rest follows it

@@ -27,7 +27,13 @@ more_of request.Clock = 1
 
 abbrev pub request_header : Request → ℕ → ℕ → Header
 request_header request me node =
-    record { phys = record { state = Ready; dst = node; more = more_of request; priority = 1; src = me }; proto = proto_of request; dst = node; hops = 0; src = me }
+    record {
+      phys = record { state = Ready; dst = node; more = more_of request; priority = 1; src = me };
+      proto = proto_of request;
+      dst = node;
+      hops = 0;
+      src = me;
+    }
 
 abbrev pub request_message : Request → List ℕ
 request_message request.Hello = ctrl_bytes (Hello 1 0 2 1800)

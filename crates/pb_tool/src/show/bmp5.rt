@@ -1,6 +1,6 @@
 //! BMP5 messages in a line of `show`.
 ghost use Rattle.std.specs.Prelude.{◌≡◌, ◌++◌, map};
-ghost use Rattle.pb_bmp5.specs.Message.{told};
+ghost use Rattle.pb_bmp5.specs.Message.{message_of};
 ghost use Rattle.pb_bmp5.specs.declared.message.Mode.TheVariants.{Times};
 ghost use Rattle.pb_io.specs.Page.{Adds, printing};
 ghost use Rattle.pb_tool.specs.Inside.{key_view};
@@ -28,7 +28,7 @@ pub fn push_bmp5<O: Sink>(page: &mut Page, message: &[u8], out: &mut O) -> bool
 }
 
 fn push_read<O: Sink>(page: &mut Page, message: Bmp5, out: &mut O)
-    ensures { Adds (bmp5_text (told message.entry)) (printing O.Sink page.old out.old) (printing O.Sink page.new out.new) }
+    ensures { Adds (bmp5_text (message_of message.entry)) (printing O.Sink page.old out.old) (printing O.Sink page.new out.new) }
 {
     match message {
         Bmp5::Collect {
@@ -197,7 +197,8 @@ fn push_read<O: Sink>(page: &mut Page, message: Bmp5, out: &mut O)
 
 // A reply, by its transaction and its response code: its keys follow a code of 0.
 fn push_answer<O: Sink>(page: &mut Page, name: &[u8], head: (u8, u8), keys: &[Key], out: &mut O)
-    ensures { Adds (named_text name.now head.0 (answer_keys head.1 (map key_view keys.now))) (printing O.Sink page.old out.old) (printing O.Sink page.new out.new) }
+    ensures { Adds (named_text name.now head.0 (answer_keys head.1 (map key_view keys.now)))
+        (printing O.Sink page.old out.old) (printing O.Sink page.new out.new) }
 {
     push_named(
         page,

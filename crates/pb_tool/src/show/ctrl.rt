@@ -1,6 +1,6 @@
 //! PakCtrl messages in a line of `show`.
 ghost use Rattle.std.specs.Prelude.{◌≡◌};
-ghost use Rattle.pb_ctrl.specs.Message.{told};
+ghost use Rattle.pb_ctrl.specs.Message.{message_of};
 ghost use Rattle.pb_io.specs.Page.{Adds, printing};
 ghost use Rattle.pb_tool.specs.MessageText.{ctrl_text, greeting_keys, named_text, shown_ctrl, is_malformed_ctrl};
 
@@ -25,7 +25,7 @@ pub fn push_ctrl<O: Sink>(page: &mut Page, message: &[u8], out: &mut O) -> bool
 }
 
 fn push_read<O: Sink>(page: &mut Page, message: Ctrl, out: &mut O)
-    ensures { Adds (ctrl_text (told message.entry)) (printing O.Sink page.old out.old) (printing O.Sink page.new out.new) }
+    ensures { Adds (ctrl_text (message_of message.entry)) (printing O.Sink page.old out.old) (printing O.Sink page.new out.new) }
 {
     match message {
         Ctrl::Hello {
@@ -123,7 +123,8 @@ fn push_read<O: Sink>(page: &mut Page, message: Ctrl, out: &mut O)
 
 // A hello or its reply: router, metric, verify interval.
 fn push_greeting<O: Sink>(page: &mut Page, name: &[u8], tran: u8, keys: (u8, u8, u16), out: &mut O)
-    ensures { Adds (named_text name.now tran (greeting_keys keys.0 keys.1 keys.2)) (printing O.Sink page.old out.old) (printing O.Sink page.new out.new) }
+    ensures { Adds (named_text name.now tran (greeting_keys keys.0 keys.1 keys.2)) (printing O.Sink page.old out.old)
+        (printing O.Sink page.new out.new) }
 {
     push_named(
         page,

@@ -18,7 +18,8 @@ pub struct Key<'a>(pub &'a [u8], pub Shown<'a>);
 
 /// Adds a message's name, its transaction and its keys.
 pub fn push_named<O: Sink>(page: &mut Page, name: &[u8], tran: u8, keys: &[Key], out: &mut O)
-    ensures { Adds (named_text name.now tran (map key_view keys.now)) (printing O.Sink page.old out.old) (printing O.Sink page.new out.new) }
+    ensures { Adds (named_text name.now tran (map key_view keys.now)) (printing O.Sink page.old out.old)
+        (printing O.Sink page.new out.new) }
 {
     page.put(
         &[
@@ -113,7 +114,8 @@ pub fn push_message<O: Sink>(page: &mut Page, proto: u8, message: &[u8], out: &m
 
 // The message of a protocol that isn't known.
 fn push_plain<O: Sink>(page: &mut Page, message: &[u8], out: &mut O)
-    ensures { Adds (joined (codes "bytes " ∷ bytes_text message.now ∷ [])) (printing O.Sink page.old out.old) (printing O.Sink page.new out.new) }
+    ensures { Adds (joined (codes "bytes " ∷ bytes_text message.now ∷ [])) (printing O.Sink page.old out.old)
+        (printing O.Sink page.new out.new) }
 {
     page.push(b"bytes ", out);
     push_bytes(page, message, out);

@@ -1,9 +1,9 @@
 //! The lines of `show`: one for each packet and each damage.
-ghost use Rattle.std.specs.Prelude.{◌≡◌, ℕ, ◌+◌, ◌≤◌, ◌⊎◌, ◌++◌, length};
+ghost use Rattle.std.specs.Prelude.{◌≡◌, ℕ, ◌+◌, ◌≤◌, ◌⊎◌, [], ◌∷◌, ◌++◌, length, codes, decimal};
 ghost use Rattle.pb_frame.specs.Framing.{Whole, Faulty, IsContentSize};
-ghost use Rattle.pb_io.specs.Page.{Adds, printing};
+ghost use Rattle.pb_io.specs.Page.{Adds, joined, printing};
 ghost use Rattle.pb_packet.specs.Packet.{packet_of};
-ghost use Rattle.pb_tool.specs.PacketText.{state_text, phys_text, proto_text, nodes_text, header_text, fault_text, content_text, is_damaged_content};
+ghost use Rattle.pb_tool.specs.PacketText.{state_text, route_text, order_text, phys_text, proto_text, hops_text, nodes_text, header_text, fault_text, content_text, is_damaged_content};
 ghost use Rattle.pb_tool.specs.ShowText.{line, why_text};
 
 use crate::show::message::push_message;
@@ -14,21 +14,32 @@ use pb_packet::{Header, LinkState, PROTO_BMP5, PROTO_PAKCTRL, Packet, PacketFaul
 /// Adds the line of a good body; whether it reports damage.
 pub fn push_body<O: Sink>(page: &mut Page, piece: u64, content: &[u8], out: &mut O) -> bool
     requires { IsContentSize (length content.now) }
-    ensures text { Adds (line (record { piece = piece; outcome = Whole content.now })) (printing O.Sink page.old out.old) (printing O.Sink page.new out.new) }
+    ensures text { Adds (line (record { piece = piece; outcome = Whole content.now }))
+        (printing O.Sink page.old out.old) (printing O.Sink page.new out.new) }
     ensures damaged { result ≡ is_damaged_content (packet_of content.now) }
 {
-    page.put(&[Part::Number(piece), Part::Text(b" ")], out);
+    push_place(page, piece, out);
     let is_damaged = push_content(page, content, out);
     page.push(b"\n", out);
     is_damaged
 }
 
+// Adds where a piece begins, and a space.
+fn push_place<O: Sink>(page: &mut Page, piece: u64, out: &mut O)
+    ensures { Adds (joined (decimal piece ∷ codes " " ∷ [])) (printing O.Sink page.old out.old)
+        (printing O.Sink page.new out.new) }
+{
+    page.push_decimal(piece, out);
+    page.push(b" ", out);
+}
+
 /// Adds the line of a piece without a good body.
 #[tactic(auto, unfolding(crate::specs::ShowText::line, crate::specs::ShowText::outcome_text))]
 pub fn push_bad<O: Sink>(page: &mut Page, piece: u64, at: u64, why: Why, out: &mut O)
-    ensures { Adds (line (record { piece = piece; outcome = Faulty at why })) (printing O.Sink page.old out.old) (printing O.Sink page.new out.new) }
+    ensures { Adds (line (record { piece = piece; outcome = Faulty at why })) (printing O.Sink page.old out.old)
+        (printing O.Sink page.new out.new) }
 {
-    page.put(&[Part::Number(piece), Part::Text(b" ")], out);
+    push_place(page, piece, out);
     page.put(
         &[
             Part::Text(b"bad "),
@@ -56,7 +67,8 @@ fn why_name(why: Why) -> &'static [u8]
 #[tactic(auto, unfolding(crate::specs::PacketText::content_text, crate::specs::PacketText::packet_text))]
 fn push_content<O: Sink>(page: &mut Page, content: &[u8], out: &mut O) -> bool
     requires { (length content.now ≡ 4) ⊎ (8 ≤ length content.now) }
-    ensures text { Adds (content_text (packet_of content.now)) (printing O.Sink page.old out.old) (printing O.Sink page.new out.new) }
+    ensures text { Adds (content_text (packet_of content.now)) (printing O.Sink page.old out.old)
+        (printing O.Sink page.new out.new) }
     ensures damaged { result ≡ is_damaged_content (packet_of content.now) }
 {
     match pb_packet::read(content) {
@@ -75,23 +87,30 @@ fn push_content<O: Sink>(page: &mut Page, content: &[u8], out: &mut O) -> bool
     }
 }
 
-#[tactic(auto, unfolding(crate::specs::PacketText::phys_text))]
 fn push_phys<O: Sink>(page: &mut Page, phys: &Phys, out: &mut O)
     ensures { Adds (phys_text phys.now) (printing O.Sink page.old out.old) (printing O.Sink page.new out.new) }
 {
-    page.put(
-        &[
-            Part::Text(state_name(phys.state)),
-            Part::Number(u64::from(phys.src.get())),
-            Part::Text(b">"),
-            Part::Number(u64::from(phys.dst.get())),
-            Part::Text(b" more "),
-            Part::Number(u64::from(phys.more)),
-            Part::Text(b" pri "),
-            Part::Number(u64::from(phys.priority)),
-        ],
-        out,
-    );
+    page.push(state_name(phys.state), out);
+    push_route(page, phys.src.get(), phys.dst.get(), out);
+    push_order(page, phys, out);
+}
+
+// Single pushes of constants are much faster than a list of parts, and there may be millions of such lines.
+fn push_route<O: Sink>(page: &mut Page, src: u16, dst: u16, out: &mut O)
+    ensures { Adds (route_text src dst) (printing O.Sink page.old out.old) (printing O.Sink page.new out.new) }
+{
+    page.push_decimal(u64::from(src), out);
+    page.push(b">", out);
+    page.push_decimal(u64::from(dst), out);
+}
+
+fn push_order<O: Sink>(page: &mut Page, phys: &Phys, out: &mut O)
+    ensures { Adds (order_text phys.now) (printing O.Sink page.old out.old) (printing O.Sink page.new out.new) }
+{
+    page.push(b" more ", out);
+    page.push_decimal(u64::from(phys.more), out);
+    page.push(b" pri ", out);
+    page.push_decimal(u64::from(phys.priority), out);
 }
 
 fn state_name(state: LinkState) -> &'static [u8]
@@ -115,22 +134,20 @@ fn push_header<O: Sink>(page: &mut Page, header: &Header, out: &mut O)
     push_nodes(page, header, out);
 }
 
-#[tactic(auto, unfolding(crate::specs::PacketText::nodes_text))]
 fn push_nodes<O: Sink>(page: &mut Page, header: &Header, out: &mut O)
     ensures { Adds (nodes_text header.now) (printing O.Sink page.old out.old) (printing O.Sink page.new out.new) }
 {
-    page.put(
-        &[
-            Part::Text(b" "),
-            Part::Number(u64::from(header.src.get())),
-            Part::Text(b">"),
-            Part::Number(u64::from(header.dst.get())),
-            Part::Text(b" hops "),
-            Part::Number(u64::from(header.hops)),
-            Part::Text(b" "),
-        ],
-        out,
-    );
+    page.push(b" ", out);
+    push_route(page, header.src.get(), header.dst.get(), out);
+    push_hops(page, header.hops, out);
+}
+
+fn push_hops<O: Sink>(page: &mut Page, hops: u8, out: &mut O)
+    ensures { Adds (hops_text hops) (printing O.Sink page.old out.old) (printing O.Sink page.new out.new) }
+{
+    page.push(b" hops ", out);
+    page.push_decimal(u64::from(hops), out);
+    page.push(b" ", out);
 }
 
 #[tactic(auto, unfolding(crate::specs::PacketText::proto_text))]

@@ -107,7 +107,8 @@ pub fn push_name<O: Sink>(page: &mut Page, name: &[u8], out: &mut O)
 }
 
 fn push_numbers<O: Sink>(page: &mut Page, bytes: &[u8], out: &mut O)
-    ensures { Adds (list_text (map decimal (numbers_of bytes.now))) (printing O.Sink page.old out.old) (printing O.Sink page.new out.new) }
+    ensures { Adds (list_text (map decimal (numbers_of bytes.now))) (printing O.Sink page.old out.old)
+        (printing O.Sink page.new out.new) }
 {
     let mut numbers = Numbers::new(bytes);
     let Some(first) = numbers.next() else {
@@ -121,7 +122,8 @@ fn push_numbers<O: Sink>(page: &mut Page, bytes: &[u8], out: &mut O)
 }
 
 fn push_settings<O: Sink>(page: &mut Page, bytes: &[u8], out: &mut O)
-    ensures { Adds (list_text (map setting_text (settings_of bytes.now))) (printing O.Sink page.old out.old) (printing O.Sink page.new out.new) }
+    ensures { Adds (list_text (map setting_text (settings_of bytes.now))) (printing O.Sink page.old out.old)
+        (printing O.Sink page.new out.new) }
 {
     let mut settings = Settings::new(bytes);
     let Some(first) = settings.next() else {
@@ -135,14 +137,16 @@ fn push_settings<O: Sink>(page: &mut Page, bytes: &[u8], out: &mut O)
 }
 
 fn push_next_setting<O: Sink>(page: &mut Page, setting: Setting, out: &mut O)
-    ensures { Adds (after_comma (setting_text (setting_view setting.entry))) (printing O.Sink page.old out.old) (printing O.Sink page.new out.new) }
+    ensures { Adds (after_comma (setting_text (setting_view setting.entry))) (printing O.Sink page.old out.old)
+        (printing O.Sink page.new out.new) }
 {
     page.push(b",", out);
     push_setting(page, setting, out);
 }
 
 fn push_setting<O: Sink>(page: &mut Page, setting: Setting, out: &mut O)
-    ensures { Adds (setting_text (setting_view setting.entry)) (printing O.Sink page.old out.old) (printing O.Sink page.new out.new) }
+    ensures { Adds (setting_text (setting_view setting.entry)) (printing O.Sink page.old out.old)
+        (printing O.Sink page.new out.new) }
 {
     page.put(
         &[Part::Number(u64::from(setting.number)), Part::Text(b":")],

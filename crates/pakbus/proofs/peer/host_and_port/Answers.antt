@@ -9,13 +9,13 @@ returns-in_err-text c = rw c.from_residual.ensures (λ host port small. no_colon
 pub returns-then-eq : goal.returns-then-eq
 returns-then-eq c host port small peer =
     let whole = last_cut 58 c.args.word.now c.in_ok-text.text.now c.in_ok-text.digits.now (omega arith) c.in_ok-text.ensures.cases in
-    let same = cut_peer c.args.word.now host c.in_ok-text.digits.now c.in_ok-text.text.now port whole peer in
+    let same = cut_peer c.args.word.now host c.in_ok-text.digits.now c.in_ok-text.text.now port small whole peer in
     peer.not_listen (sym same.0 ∙ (bytes_decides c.in_ok-text.text.now _).0 (sym c.if-eq.ensures))
 
 pub returns-in_err-host : goal.returns-in_err-host
 returns-in_err-host c =
     let whole = last_cut 58 c.args.word.now c.in_ok-text.text.now c.in_ok-text.digits.now (omega arith) c.in_ok-text.ensures.cases in
-    rw c.from_residual-in_err-host.ensures (λ host port small. no_host c.args.word.now host c.in_ok-text.digits.now c.in_ok-text.text.now port whole c.in_err-host.ensures)
+    rw c.from_residual-in_err-host.ensures (λ host port small. no_host c.args.word.now host c.in_ok-text.digits.now c.in_ok-text.text.now port whole c.in_err-host.ensures small)
 
 pub returns-in_err-port : goal.returns-in_err-port
 returns-in_err-port c =

@@ -5,39 +5,16 @@ use Rattle.pb_base.specs.World.{StoredRecord}
 use Rattle.pb_bmp5.specs.CollectReply.{whole, part, Begins}
 use Rattle.pb_bmp5.specs.TrueReply.{IsTrueOf}
 use Rattle.pb_bmp5.specs.WorkedReply.{second, worked_definition, worked_history, worked_request, worked_reply, worked_rest_request, worked_rest}
+use Rattle.pb_bmp5.proofs.WorkedLemmas.{worked_says}
 use Rattle.pb_bmp5.proofs.true_reply.the_only_record_is_sent.Goals as goal
 
-bytes : List ℕ
-bytes = 0 ∷ 0 ∷ 0 ∷ 7 ∷ 0 ∷ 0 ∷ 0 ∷ 0 ∷ 0xAA ∷ 0xBB ∷ []
-
-says : IsTrueOf worked_request worked_reply.message (worked_history worked_request.table)
-unfolding bytes
-says = record {
-  definition = worked_definition;
-  stood = Contains-push [] worked_definition;
-  reply = record { tran = 1; resp = 0; more = false; fragments = whole 0 1 bytes ∷ [] };
-  reads = record { body = _; parts = refl; has = (0, (0 ∷ [], begins, refl), refl) };
-  answer = record {
-    stage = record { next = 1; oldest = 0 };
-    lies = record { held = omega arith; stored = omega arith; overwritten = omega arith };
-    holds = (record { not_lost = omega arith; there = omega arith; same = refl }, tt);
-    answers = record { begins = refl; below = (omega arith, tt); ends = (λ e. inl (inl (refl, tt)), λ ends. refl) };
-  };
-}
-  where
-    begins : Begins 1 worked_definition.layout None (whole 0 1 bytes) (0 ∷ 1 ∷ 0 ∷ 0 ∷ 0 ∷ 0 ∷ 0 ∷ 1 ∷ 0 ∷ 0 ∷ 0 ∷ 7 ∷ 0 ∷ 0 ∷ 0 ∷ 0 ∷ 0xAA ∷ 0xBB ∷ 0 ∷ []) (0 ∷ [])
-    begins = record {
-      after = 0 ∷ [];
-      leads = record { parts = refl; number = omega arith; fits = (omega arith, omega arith); its_bytes = refl; some = omega arith };
-      ends = tt;
-      formed = record { goes_on = tt; of_layout = λ interval k lt. absurd cc; numbered = omega arith };
-      goes = refl;
-    }
+whole_says : IsTrueOf worked_request worked_reply.message (worked_history worked_request.table)
+whole_says = worked_says (worked_history worked_request.table) (Contains-push [] worked_definition) refl
 
 pub returns-clause-whole : goal.returns-clause-whole
-unfolding says
+unfolding whole_says worked_says
 returns-clause-whole c = record {
-  is_true = record { src = refl; dst = refl; proto = refl; resp = 0; body = _; parts = refl; says = λ complete. says };
+  is_true = record { src = refl; dst = refl; proto = refl; resp = 0; body = _; parts = refl; says = λ complete. whole_says };
   full = λ complete. record { some = λ lt none. none; uncut = λ short. (tt, tt); long = (tt, tt) };
 }
 

@@ -1,13 +1,13 @@
 use Rattle.std.proofs.Common.{subst, arith}
 use Rattle.pb_ctrl.specs.declared.message.Ctrl.{Ctrl}
-use Rattle.pb_ctrl.specs.Message.{told, Valid}
+use Rattle.pb_ctrl.specs.Message.{message_of, Valid}
 use Rattle.pb_ctrl.proofs.writing.write.Goals as goal
 
 pub write_failure-requires-clause-to : goal.write_failure-requires-clause-to
-write_failure-requires-clause-to c = (subst (λ (m : Ctrl). Valid (told m)) c.in-Failure.is c.requires).obeys.1.1.1.0
+write_failure-requires-clause-to c = (subst (λ (m : Ctrl). Valid (message_of m)) c.in-Failure.is c.requires).obeys.1.1.1.0
 
 pub write_failure-requires-clause-from : goal.write_failure-requires-clause-from
-write_failure-requires-clause-from c = (subst (λ (m : Ctrl). Valid (told m)) c.in-Failure.is c.requires).obeys.1.1.1.1.0
+write_failure-requires-clause-from c = (subst (λ (m : Ctrl). Valid (message_of m)) c.in-Failure.is c.requires).obeys.1.1.1.1.0
 
 pub returns-in-Hello-clause-written : goal.returns-in-Hello-clause-written
 returns-in-Hello-clause-written c = rw c.in-Hello.is c.write_greeting.ensures.written

@@ -2,7 +2,7 @@ use Rattle.std.proofs.Common.{◌≡◌, ℕ, List, [], length, refl, inl, inr, 
 use Rattle.std.specs.List.{Contains}
 use Rattle.std.proofs.lemmas.List.Elements.{Contains-push_cases}
 use Rattle.pb_base.specs.Request.{Request}
-use Rattle.pb_frame.specs.Framing.{frame, IsContentSize, Outcome, Whole, Faulty, Verdict}
+use Rattle.pb_frame.specs.Framing.{frame, IsContentSize, Finding, Whole, Faulty, Verdict}
 use Rattle.pb_packet.specs.declared.headers.Header.{Header}
 use Rattle.pb_packet.specs.Packet.{Seen, full, PacketBytes}
 use Rattle.pb_bmp5.specs.Message.{Message, Collect, CollectKeys, MessageReads}
@@ -10,7 +10,7 @@ use Rattle.pb_truth.specs.Asked.{request_of, AsksFor, HasContent}
 use Rattle.pb_truth.proofs.StreamLemmas.{frame_alone, frame_has}
 use Rattle.pb_truth.proofs.asking.written_frames_ask_once.Goals as goal
 
-abbrev content_in : Outcome → List ℕ
+abbrev content_in : Finding → List ℕ
 content_in (Whole content) = content
 content_in (Faulty at why) = []
 

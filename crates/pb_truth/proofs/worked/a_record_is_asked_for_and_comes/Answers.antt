@@ -9,10 +9,10 @@ use Rattle.pb_packet.specs.declared.headers.Header.{Header}
 use Rattle.pb_packet.specs.Packet.{full, PacketBytes, IsValidHeader}
 use Rattle.pb_bmp5.specs.declared.message.Mode.TheVariants as wire
 use Rattle.pb_bmp5.specs.Message.{Collect, CollectKeys, MessageReads}
-use Rattle.pb_bmp5.specs.CollectReply.{whole, Begins}
 use Rattle.pb_bmp5.specs.TrueReply.{IsTrueOf, TrueReply}
 use Rattle.pb_bmp5.specs.WorkedReply.{worked_definition, worked_request, worked_reply}
 use Rattle.pb_bmp5.proofs.TrueLemmas.{reply-stays}
+use Rattle.pb_bmp5.proofs.WorkedLemmas.{worked_says}
 use Rattle.pb_truth.specs.Asked.{request_of, AsksFor, IsIn, WasAsked}
 use Rattle.pb_truth.specs.Honest.{Delivers}
 use Rattle.pb_truth.specs.Worked.{asking, answering, before_the_reply, worked_world}
@@ -93,31 +93,8 @@ delivers = record {
   is = refl;
 }
 
-abbrev content_bytes : List ℕ
-content_bytes = 0 ∷ 0 ∷ 0 ∷ 7 ∷ 0 ∷ 0 ∷ 0 ∷ 0 ∷ 0xAA ∷ 0xBB ∷ []
-
 says : IsTrueOf worked_request worked_reply.message (history before_the_reply worked_request.table)
-says = record {
-  definition = worked_definition;
-  stood = Contains-push [] worked_definition;
-  reply = record { tran = 1; resp = 0; more = false; fragments = whole 0 1 content_bytes ∷ [] };
-  reads = record { body = _; parts = refl; has = (0, (0 ∷ [], begins, refl), refl) };
-  answer = record {
-    stage = record { next = 1; oldest = 0 };
-    lies = record { held = omega arith; stored = omega arith; overwritten = omega arith };
-    holds = (record { not_lost = omega arith; there = omega arith; same = refl }, tt);
-    answers = record { begins = refl; below = (omega arith, tt); ends = (λ e. inl (inl (refl, tt)), λ ends. refl) };
-  };
-}
-  where
-    begins : Begins 1 worked_definition.layout None (whole 0 1 content_bytes) (0 ∷ 1 ∷ 0 ∷ 0 ∷ 0 ∷ 0 ∷ 0 ∷ 1 ∷ 0 ∷ 0 ∷ 0 ∷ 7 ∷ 0 ∷ 0 ∷ 0 ∷ 0 ∷ 0xAA ∷ 0xBB ∷ 0 ∷ []) (0 ∷ [])
-    begins = record {
-      after = 0 ∷ [];
-      leads = record { parts = refl; number = omega arith; fits = (omega arith, omega arith); its_bytes = refl; some = omega arith };
-      ends = tt;
-      formed = record { goes_on = tt; of_layout = λ interval k lt. absurd cc; numbered = omega arith };
-      goes = refl;
-    }
+says = worked_says (history before_the_reply worked_request.table) (Contains-push [] worked_definition) refl
 
 is_true : TrueReply worked_request worked_reply (history before_the_reply)
 is_true = record { src = refl; dst = refl; proto = refl; resp = 0; body = _; parts = refl; says = λ complete. says }

@@ -6,4 +6,4 @@ use Rattle.pb_tool.proofs.show.packet.push_bad.Goals as goal
 
 pub returns : goal.returns
 unfolding line outcome_text
-returns g c = Adds-three _ _ _ _ _ _ _ _ (simp (c.why_name.ensures, append_assoc, append-nil) refl) c.put.ensures c.put-2.ensures c.push.ensures
+returns g c = Adds-three _ _ _ _ _ _ _ _ (simp (c.why_name.ensures, append_assoc, append-nil) refl) c.push_place.ensures c.put.ensures c.push.ensures

@@ -6,4 +6,4 @@ use Rattle.pb_tool.proofs.show.packet.push_body.Goals as goal
 
 pub returns-clause-text : goal.returns-clause-text
 unfolding line outcome_text
-returns-clause-text g c = Adds-three _ _ _ _ _ _ _ _ (simp (append_assoc, append-nil) refl) c.put.ensures c.push_content-is_damaged.ensures.text c.push.ensures
+returns-clause-text g c = Adds-three _ _ _ _ _ _ _ _ (simp (append_assoc, append-nil) refl) c.push_place.ensures c.push_content-is_damaged.ensures.text c.push.ensures
