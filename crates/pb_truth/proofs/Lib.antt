@@ -7,3 +7,6 @@ pub mod PairLemmas
 pub mod StreamLemmas
 pub mod TableLemmas
 pub mod ViewLemmas
+mod CountLemmas
+mod BoundLemmas
+mod AnswerLemmas

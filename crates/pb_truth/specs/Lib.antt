@@ -1,7 +1,9 @@
 pub mod Asked
+pub mod Bound
 pub mod Honest
 pub mod Image
 pub mod Keeping
 pub mod Learning
 pub mod Pairs
+pub mod Undisturbed
 pub mod Worked

@@ -17,8 +17,11 @@ answering = 0xAF ∷ 0xFE ∷ 0x10 ∷ 0x0A ∷ 0x1F ∷ 0xFE ∷ 0x00 ∷ 0x0A 
 abbrev pub worked_record : StoredRecord
 worked_record = record { time = second 7; bytes = 0xAA ∷ 0xBB ∷ [] }
 
+abbrev pub before_the_request : World
+before_the_request = Defined 10 1 worked_definition ∷ Stored 10 1 worked_record ∷ []
+
 abbrev pub before_the_reply : World
-before_the_reply = Defined 10 1 worked_definition ∷ Stored 10 1 worked_record ∷ Sent (frame asking) ∷ []
+before_the_reply = before_the_request ++ Sent (frame asking) ∷ []
 
 abbrev pub worked_world : World
 worked_world = before_the_reply ++ all_heard (frame answering)

@@ -8,7 +8,9 @@ ghost use Rattle.pb_bmp5.specs.WorkedReply.{worked_request, worked_reply};
 ghost use Rattle.pb_truth.specs.Asked.{AsksFor, WasAsked, AsksFromAtMost};
 ghost use Rattle.pb_truth.specs.Honest.{IsAnswer, WasHeard};
 ghost use Rattle.pb_truth.specs.Learning.{Known, without_partial, BeginsFrom, BeginsWithPart, learned};
-ghost use Rattle.pb_truth.specs.Worked.{asking, worked_world};
+ghost use Rattle.pb_truth.specs.Bound.{parts_max, bound};
+ghost use Rattle.pb_truth.specs.Undisturbed.{Undisturbed};
+ghost use Rattle.pb_truth.specs.Worked.{asking, before_the_request, worked_world};
 
 use crate::asking::written_frames_ask_once;
 
@@ -50,12 +52,25 @@ fn requests_are_below_the_front()
 {}
 
 // A collect command from 4094 to station 10 asks for the records of table 1 from 0 on. Its frame was sent, its reply was
-// heard, and the reply is a true answer to it.
+// heard, and the reply is a true answer to it. Nothing disturbed the exchange.
 fn a_record_is_asked_for_and_comes()
     ensures asks { AsksFor asking worked_request }
     ensures asked { WasAsked worked_world worked_request }
     ensures heard { WasHeard worked_world worked_reply }
     ensures answer { IsAnswer worked_world worked_reply }
+    ensures undisturbed { Undisturbed before_the_request worked_world }
 {
     written_frames_ask_once();
 }
+
+// A content of 10 bytes comes in one part, one of 3,008 in up to 12. With a front of 3, of ten records of which 7 is the
+// lowest, at most seven requests are made for short contents.
+fn bounds_are_counted()
+    ensures { let sized = λ (n : ℕ). let layout : Layout = record {
+      record_len = n;
+      event = true;
+      interval = record { sec = pos 0; nano = pos 0 };
+    } in layout in
+        (parts_max (sized 2) ≡ 1) × (parts_max (sized 3000) ≡ 12) × (bound (sized 2) 3 7 10 ≡ 7)
+        × (bound (sized 2) 7 3 10 ≡ 7) × (bound (sized 3000) 0 0 1 ≡ 14) × (bound (sized 2) 9 0 9 ≡ 1) }
+{}

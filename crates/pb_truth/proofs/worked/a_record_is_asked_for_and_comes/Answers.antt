@@ -1,7 +1,8 @@
-use Rattle.std.proofs.Common.{◌≡◌, ℕ, None, false, List, [], ◌∷◌, ◌++◌, length, refl, sym, ◌∙◌, arith, append_assoc, append-nil, inl, inr}
+use Rattle.std.proofs.Common.{◌≡◌, ℕ, None, Bool, true, false, List, [], ◌∷◌, ◌++◌, length, refl, sym, subst, ◌∙◌, ap, arith, append_assoc, append-nil, inl, inr}
 use Rattle.std.proofs.lemmas.List.Elements.{Contains-push}
-use Rattle.pb_base.specs.World.{all_heard, heard_from}
-use Rattle.pb_base.specs.History.{history}
+use Rattle.std.specs.List.{AllByRecursion, Contains, flat_map}
+use Rattle.pb_base.specs.World.{World, Sent, all_heard, bytes_heard, heard_from}
+use Rattle.pb_base.specs.History.{TableKey, History, history, events_under, definition_in, record_in, greatest_oldest}
 use Rattle.pb_io.proofs.WorldLemmas.{history-later}
 use Rattle.pb_frame.specs.Framing.{frame, IsContentSize}
 use Rattle.pb_packet.specs.declared.headers.LinkState.TheVariants.{Ready}
@@ -9,13 +10,14 @@ use Rattle.pb_packet.specs.declared.headers.Header.{Header}
 use Rattle.pb_packet.specs.Packet.{full, PacketBytes, IsValidHeader}
 use Rattle.pb_bmp5.specs.declared.message.Mode.TheVariants as wire
 use Rattle.pb_bmp5.specs.Message.{Collect, CollectKeys, MessageReads}
-use Rattle.pb_bmp5.specs.TrueReply.{IsTrueOf, TrueReply}
+use Rattle.pb_bmp5.specs.TrueReply.{IsTrueOf, TrueReply, FullReply}
 use Rattle.pb_bmp5.specs.WorkedReply.{worked_definition, worked_request, worked_reply}
 use Rattle.pb_bmp5.proofs.TrueLemmas.{reply-stays}
 use Rattle.pb_bmp5.proofs.WorkedLemmas.{worked_says}
 use Rattle.pb_truth.specs.Asked.{request_of, AsksFor, IsIn, WasAsked}
 use Rattle.pb_truth.specs.Honest.{Delivers}
-use Rattle.pb_truth.specs.Worked.{asking, answering, before_the_reply, worked_world}
+use Rattle.pb_truth.specs.Undisturbed.{IsCalm, Calm, Exchanges}
+use Rattle.pb_truth.specs.Worked.{asking, answering, before_the_request, before_the_reply, worked_world}
 use Rattle.pb_truth.proofs.StreamLemmas.{frame_has}
 use Rattle.pb_truth.proofs.worked.a_record_is_asked_for_and_comes.Goals as goal
 
@@ -140,3 +142,55 @@ returns-clause-answer c = record {
   asked = was_asked (is_in c.written_frames_ask_once.ensures.asks);
   reply = is_true_still;
 }
+
+calm : (bytes : List ℕ) → AllByRecursion IsCalm (all_heard bytes)
+calm [] = tt
+calm (b ∷ bytes) = (tt, calm bytes)
+
+all-bytes : (bytes : List ℕ) → bytes_heard (all_heard bytes) ≡ bytes
+unfolding bytes_heard
+all-bytes [] = refl
+all-bytes (b ∷ bytes) = ap (λ l. b ∷ l) (all-bytes bytes)
+
+-- what is heard adds nothing to a history
+none-under : (key : TableKey) (before : Bool) (bytes : List ℕ) → events_under key before (all_heard bytes) ≡ []
+none-under key before [] = refl
+none-under key before (b ∷ bytes) = none-under key before bytes
+
+same_history : history worked_world worked_request.table ≡ history before_the_reply worked_request.table
+same_history = ap (λ (rest : World). told (before_the_request ++ rest)) (none-under worked_request.table true (frame answering))
+  where
+    told : World → History
+    told events = record { definitions = flat_map definition_in events; records = flat_map record_in events; oldest = greatest_oldest events }
+
+says_then : IsTrueOf worked_request worked_reply.message (history worked_world worked_request.table)
+says_then =
+    worked_says (history worked_world worked_request.table)
+    (subst (λ ds. Contains ds worked_definition) (sym (ap (λ (h : History). h.definitions) same_history)) (Contains-push [] worked_definition))
+    (ap (λ (h : History). h.records) same_history)
+
+is_full : FullReply worked_request worked_reply (history worked_world)
+unfolding says_then worked_says
+is_full = record {
+  is_true = record { src = refl; dst = refl; proto = refl; resp = 0; body = _; parts = refl; says = λ complete. says_then };
+  full = λ complete. record { some = λ lt none. none; uncut = λ short. (tt, tt); long = (tt, tt) };
+}
+
+pub returns-clause-undisturbed : goal.returns-clause-undisturbed
+unfolding bytes_heard is_full says_then worked_says
+returns-clause-undisturbed c =
+    Exchanges before_the_request before_the_request (Sent (frame asking) ∷ all_heard (frame answering)) (Calm before_the_request [] tt refl) (record {
+      sent = frame asking;
+      rest = all_heard (frame answering);
+      is = refl;
+      calm = calm (frame answering);
+      request = worked_request;
+      asks = is_in c.written_frames_ask_once.ensures.asks;
+      content = answering;
+      heard = all-bytes (frame answering);
+      packet = worked_reply;
+      delivers = delivers;
+      reply = is_full;
+      complete = refl;
+      stage = record { stored = omega arith; oldest = omega arith; held = inl (omega arith) };
+    })
