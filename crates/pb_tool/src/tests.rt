@@ -3,8 +3,45 @@ ghost use Rattle.std.specs.Prelude.{◌≤◌};
 
 use crate::{Status, run};
 use pb_io::{MemDisk, MemSink, MemSite, MemSource};
-use std::alloc::Global;
+use std::alloc::{AllocError, Global};
 use std::test::Fail;
+
+// The words of a command line.
+pub fn words_of(alloc: Global, words: &[&str]) -> Result<Vec<String>, AllocError> {
+    let mut all = Vec::new(alloc);
+    for word in words {
+        all.push(String::from_str(alloc, word)?)?;
+    }
+    Ok(all)
+}
+
+// Runs words over the forms in memory. A helper of its own, so that no test carries the clauses of `run`.
+pub fn status_of(
+    alloc: Global,
+    words: &[String],
+    site: &mut MemSite,
+    source: &mut MemSource,
+    sink: &mut MemSink,
+) -> Status {
+    run(alloc, words, site, source, sink)
+}
+
+// Runs words over a site and an input in memory; the reads and writes whose numbers are given fail.
+pub fn ran_over(
+    alloc: Global,
+    words: &[&str],
+    site: &mut MemSite,
+    input: (&[u8], usize, &[u64]),
+    write_fails: &[u64],
+) -> Result<(Status, Vec<u8>), Fail>
+    requires { 1 ≤ input.1 }
+{
+    let words = words_of(alloc, words)?;
+    let mut source = MemSource::new(alloc, input.0, input.1, input.2)?;
+    let mut sink = MemSink::new(alloc, write_fails)?;
+    let status = status_of(alloc, &words, site, &mut source, &mut sink);
+    Ok((status, Vec::from_slice(alloc, sink.bytes())?))
+}
 
 // Runs words over an input in memory; the reads and writes whose numbers are given fail.
 pub fn ran(
@@ -15,15 +52,8 @@ pub fn ran(
 ) -> Result<(Status, Vec<u8>), Fail>
     requires { 1 ≤ input.1 }
 {
-    let mut all = Vec::new(alloc);
-    for word in words {
-        all.push(String::from_str(alloc, word)?)?;
-    }
     let mut site = MemSite::new(alloc, MemDisk::new(alloc, &[], &[])?, &[])?;
-    let mut source = MemSource::new(alloc, input.0, input.1, input.2)?;
-    let mut sink = MemSink::new(alloc, write_fails)?;
-    let status = run(alloc, &all, &mut site, &mut source, &mut sink);
-    Ok((status, Vec::from_slice(alloc, sink.bytes())?))
+    ran_over(alloc, words, &mut site, input, write_fails)
 }
 
 const SHOW: &[&str] = &["-", "-", "show"];

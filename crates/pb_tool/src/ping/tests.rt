@@ -1,12 +1,15 @@
 //! Tests of `ping`, over a site in memory.
 
-use crate::{Status, run};
+use crate::Status;
+use crate::tests::ran_over;
 use pb_base::NodeId;
-use pb_io::{MemDisk, MemSink, MemSite, MemSource};
+use pb_io::{MemDisk, MemSite};
 use pb_packet::Packet;
 use pb_trans::{Asked, Exchange, Limits, Step};
-use std::alloc::Global;
+use std::alloc::{AllocError, Global};
 use std::test::Fail;
+
+const PING: &[&str] = &["-", "-", "ping", "4094", "1"];
 
 const HELLO: &[u8] = b"\xBD\xA0\x01\x9F\xFE\x00\x01\x0F\xFE\x09\x01\x00\x02\x07\x08\xE8\x1F\xBD";
 
@@ -70,28 +73,34 @@ struct Ping {
     sent: Vec<Vec<u8>>,
 }
 
-// Pings over a site in memory that hears these chunks; the link call of this number fails.
-fn pinged(alloc: Global, chunks: &[&[u8]], fails: u64) -> Result<Ping, Fail> {
-    let mut words = Vec::new(alloc);
-    for word in ["-", "-", "ping", "4094", "1"] {
-        words.push(String::from_str(alloc, word)?)?;
-    }
-    let mut site = MemSite::new(alloc, MemDisk::new(alloc, &[], &[])?, &[fails])?;
-    for chunk in chunks {
-        site.hears(chunk)?;
-    }
-    let mut source = MemSource::new(alloc, &[], 1, &[])?;
-    let mut sink = MemSink::new(alloc, &[])?;
-    let status = run(alloc, &words, &mut site, &mut source, &mut sink);
+// The frames that a site has sent, seven at most.
+fn sent_by(alloc: Global, site: &MemSite) -> Result<Vec<Vec<u8>>, AllocError> {
     let mut sent = Vec::new(alloc);
     for n in 0..7 {
         if let Some(frame) = site.sent(n) {
             sent.push(Vec::from_slice(alloc, frame)?)?;
         }
     }
+    Ok(sent)
+}
+
+// A site in memory that hears these chunks; the link call of this number fails.
+fn site_of(alloc: Global, chunks: &[&[u8]], fails: u64) -> Result<MemSite, Fail> {
+    let mut site = MemSite::new(alloc, MemDisk::new(alloc, &[], &[])?, &[fails])?;
+    for chunk in chunks {
+        site.hears(chunk)?;
+    }
+    Ok(site)
+}
+
+// Pings over a site in memory that hears these chunks; the link call of this number fails.
+fn pinged(alloc: Global, chunks: &[&[u8]], fails: u64) -> Result<Ping, Fail> {
+    let mut site = site_of(alloc, chunks, fails)?;
+    let (status, written) = ran_over(alloc, PING, &mut site, (&[], 1, &[]), &[])?;
+    let sent = sent_by(alloc, &site)?;
     Ok(Ping {
         status,
-        written: Vec::from_slice(alloc, sink.bytes())?,
+        written,
         sent,
     })
 }
