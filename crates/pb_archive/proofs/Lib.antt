@@ -12,3 +12,6 @@ pub mod WritingLemmas
 pub mod OpeningLemmas
 pub mod PlanLemmas
 pub mod RegisterLemmas
+pub mod RunLemmas
+pub mod RowsLemmas
+pub mod ReaderLemmas

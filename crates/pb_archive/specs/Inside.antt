@@ -1,5 +1,5 @@
 -- Steps of the calls, which no promise names.
-use Rattle.std.specs.Prelude.{◌≡◌, ◌⊎◌, ⊤, Bool, true, false, ℕ, ◌+◌, ◌^◌, ◌<◌, ◌≤◌, List, [], ◌++◌, length, get_or, Option, None}
+use Rattle.std.specs.Prelude.{◌≡◌, ◌⊎◌, ⊤, Bool, true, false, ℕ, ◌+◌, ◌^◌, ◌<◌, ◌≤◌, List, [], ◌++◌, length, map, drop, get_or, Option, None, Some}
 use Rattle.std.specs.List.{All, AllByRecursion, flat_map}
 use Rattle.pb_base.specs.Fields.{Unread, IsBytes}
 use Rattle.pb_tdf.specs.Definition.{Definition, IsTable}
@@ -7,7 +7,7 @@ use Rattle.pb_tdf.specs.View.{view_of}
 use Rattle.pb_archive.specs.Plan.{Plan, IsBegun, CannotGoOn, first_line, station_line}
 use Rattle.pb_archive.specs.declared.fault.PlanFault.{PlanFault}
 use Rattle.pb_archive.specs.declared.fault.PlanFault.TheVariants as plan_fault
-use Rattle.pb_archive.specs.Entry.{Advance, Change, Added, Advanced, Stopped, IsTold, station_bytes, change_bytes, IsArchive, tables_max, records_max}
+use Rattle.pb_archive.specs.Entry.{Advance, Change, Added, Advanced, Stopped, IsTold, HasForm, station_bytes, change_bytes, contents, IsArchive, tables_max, records_max}
 pub use Rattle.pb_archive.specs.Opened.{HasLayout, IsOther, CanAddHere, IsGoingOnHere, CanAdvanceHere, AllowsHere}
 use Rattle.pb_archive.specs.Held.{Wrote}
 use Rattle.pb_archive.specs.Opened.{Register, Stands, kept_of, register_after}
@@ -29,6 +29,14 @@ use Rattle.pb_archive.specs.declared.entry.Change as read_change
 use Rattle.pb_archive.specs.declared.entry.Change.TheVariants as read
 use Rattle.pb_archive.specs.declared.held.Held.{Held}
 use Rattle.pb_archive.specs.declared.plan.StationPlan.{StationPlan}
+use Rattle.pb_archive.specs.declared.row.Last.{Last}
+use Rattle.pb_archive.specs.declared.row.Last.TheVariants as last
+use Rattle.pb_archive.specs.declared.run.Run.{Run}
+use Rattle.pb_archive.specs.Reader.{Reader, Awaits, ReadRow, SameTable, advance_head_len, content_at, run_end}
+use Rattle.pb_archive.specs.Rows.{SeenRow, kept, gap}
+use Rattle.pb_base.specs.declared.layout.Layout.{Layout}
+use Rattle.pb_base.specs.Record.{content, cut_records}
+use Rattle.pb_record.specs.Cut.{IsRun}
 
 -- a station's fields
 abbrev pub station : ℕ → ℕ → List ℕ → StationPlan
@@ -146,6 +154,81 @@ pub record IsEntryOf (register : Register) (change : Change) (body : List ℕ) :
 pub record HasWritten (change : Change) (register : Register) (gate : ℕ) (old new : View) : Type 0 where
   pub wrote : Wrote change old new
   pub stands : ForSome new.file (Stands (register_after register change) gate)
+
+-- ---- the records of an advance
+
+-- the records can be cut, and each has a number
+abbrev pub FitsLayout : Layout → Advance → Type 0
+FitsLayout layout a = HasForm layout a × (a.first + a.count ≤ records_max)
+
+-- so do those of an advance of the table at this place
+abbrev pub FitsTable : ℕ → Layout → Change → Type 0
+FitsTable id layout (Added station number definition) = ⊤
+FitsTable id layout (Advanced k a) = k ≡ id → FitsLayout layout a
+FitsTable id layout (Stopped k stop) = ⊤
+
+-- no advance of the table at this place
+abbrev pub IsElsewhere : ℕ → Change → Type 0
+IsElsewhere id (Added station number definition) = ⊤
+IsElsewhere id (Advanced k a) = k ≡ id → ⊥
+IsElsewhere id (Stopped k stop) = ⊤
+
+-- the run has the advance's records
+pub record IsRunOf (layout : Layout) (a : Advance) (run : Run) : Type 0 where
+  pub first : run.first ≡ a.first
+  pub count : run.count ≡ a.count
+  pub len : run.layout.record_len ≡ layout.record_len
+  pub cut : IsRun run.layout a.first a.count a.bytes
+  pub same : contents layout a ≡ map content (cut_records run.layout a.count a.bytes)
+
+-- the run has the records of the advance whose entry has this body
+pub record IsRunIn (id : ℕ) (layout : Layout) (body : List ℕ) (run : Run) : Type 0 where
+  pub advance : Advance
+  pub spelled : IsSpelled (Advanced id advance)
+  pub bytes : body ≡ change_bytes (Advanced id advance)
+  pub is : IsRunOf layout advance run
+
+-- the entry with this body is no advance of the table
+abbrev pub HasNoRun : ℕ → List ℕ → Type 0
+HasNoRun id body = (change : Change) → IsSpelled change → body ≡ change_bytes change → IsElsewhere id change
+
+-- ---- reading rows
+
+-- the record that was read last is one of the run's
+abbrev pub IsLast : Last → Run → Type 0
+IsLast last.Nothing run = ⊤
+IsLast (last.Kept k) run = k < run.count
+IsLast (last.Gap from to) run = ⊤
+
+-- what is always true of the fields of `Rows`
+pub record IsReader (last : Last) (layout : Layout) (next to : ℕ) (run : Run) (body : List ℕ) : Type 0 where
+  pub within : next ≤ to
+  pub numbers : run_end run ≤ records_max
+  pub cut : 0 < run.count → IsRun run.layout run.first run.count (drop advance_head_len body)
+  pub here : IsLast last run
+  pub same_len : run.layout.record_len ≡ layout.record_len
+
+abbrev pub row_of : Last → Run → List ℕ → Option SeenRow
+row_of last.Nothing run body = None
+row_of (last.Kept k) run body = Some (kept (run.first + k) (content_at run body k))
+row_of (last.Gap from to) run body = Some (gap from to)
+
+-- What comes at the next number: a gap that reaches the end, or one that ends at a kept record, or a kept record.
+abbrev pub IsKnown : Reader → Type 0
+IsKnown r = (r.to ≤ r.run.first) ⊎ ((0 < r.run.count) × (r.next < run_end r.run))
+
+-- the same rows are read, from the same number on
+pub record SameRows (old new : Reader) : Type 0 where
+  pub next : new.next ≡ old.next
+  pub table : SameTable old new
+
+-- what is still to come stays
+abbrev pub StillAwaits : Reader → Reader → Option (List ℕ) → Type 0
+StillAwaits old new view = (file : List ℕ) (rows : List SeenRow) → view ≡ Some file → Awaits old file rows → Awaits new file rows
+
+-- the next row was read
+abbrev pub Takes : Reader → Reader → Type 0
+Takes old new = (file : List ℕ) (rows : List SeenRow) → Awaits old file rows → ReadRow new file rows true
 
 -- ---- making an archive
 

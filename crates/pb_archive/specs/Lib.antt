@@ -8,6 +8,8 @@ pub mod Inside
 pub mod Opened
 pub mod Plan
 pub mod PlanRefusal
+pub mod Reader
 pub mod Refusals
+pub mod Rows
 pub mod Seen
 pub mod Truth

@@ -85,6 +85,11 @@ register_after r (Stopped id stop) = record r { tables = changed_at id (ended st
 abbrev pub HasLayout : TableView → Type 0
 HasLayout table = (layout : Layout) × (table.layout ≡ Ok layout)
 
+-- what is so of every table: its station is in the plan, and its records have a layout
+pub record IsCollectable (plan : Plan) (held : Held) : Type 0 where
+  pub station : held.station < length plan.stations
+  pub layout : HasLayout held.table
+
 abbrev pub IsOther : ℕ → ℕ → Held → Type 0
 IsOther station number held = held.station ≡ station → held.number.0 ≡ number → ⊥
 

@@ -1,5 +1,5 @@
 -- When calls on an archive are refused.
-use Rattle.std.specs.Prelude.{◌≡◌, ◌⊎◌, ◌≤◌, ⊤, ℕ, Bool, true, false, List, [], ◌∷◌, ◌++◌, slice_get, length, Option, Some, Result, IsErrOf}
+use Rattle.std.specs.Prelude.{◌≡◌, ◌⊎◌, ◌≤◌, ⊤, ℕ, Bool, true, false, List, [], ◌∷◌, ◌++◌, slice_get, length, Option, None, Some, Result, IsErrOf}
 use Rattle.std.specs.Option.{ForSome}
 use Rattle.pb_io.specs.Faults.{Rose}
 use Rattle.pb_journal.specs.Entries.{Entries, gate_place}
@@ -79,6 +79,27 @@ ChangeRefuses o id Exists = ⊥
 ChangeRefuses o id (Format at) = ⊥
 ChangeRefuses o id TooMany = ⊥
 ChangeRefuses o id Memory = ⊥
+
+abbrev pub ReadRefuses : OpenArchive → ArchiveFault → Type 0
+ReadRefuses o MustReopen = NeedsOpening o true
+ReadRefuses o Memory = NeedsOpening o false
+ReadRefuses o NotCreated = ⊥
+ReadRefuses o Exists = ⊥
+ReadRefuses o (Format at) = ⊥
+ReadRefuses o DiskFault = ⊥
+ReadRefuses o (Stopped told) = ⊥
+ReadRefuses o TooMany = ⊥
+
+-- a file that is known can be read
+abbrev pub RowRefuses : Option (List ℕ) → ArchiveFault → Type 0
+RowRefuses view DiskFault = ⊤
+RowRefuses view (Format at) = view ≡ None
+RowRefuses view NotCreated = ⊥
+RowRefuses view Exists = ⊥
+RowRefuses view MustReopen = ⊥
+RowRefuses view (Stopped told) = ⊥
+RowRefuses view TooMany = ⊥
+RowRefuses view Memory = ⊥
 
 -- The count of failed disk calls rose where the call answers a disk fault, and stays with any other answer.
 pub record HasDiskCause {T : Type 0} (before now : ℕ) (result : Result T ArchiveFault) : Type 0 where

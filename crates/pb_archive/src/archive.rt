@@ -1,6 +1,7 @@
 //! An archive that was opened: what is kept of it in memory, and what is asked of that.
-ghost use Rattle.std.specs.Prelude.{◌≡◌, ◌<◌, ◌≤◌, length, slice_get, option_map, position, MatchOption, None};
+ghost use Rattle.std.specs.Prelude.{◌≡◌, ◌<◌, ◌≤◌, length, slice_get, option_map, position, MatchOption, IfSome, None};
 ghost use Rattle.pb_archive.specs.Find.{first_named};
+ghost use Rattle.pb_archive.specs.Opened.{IsCollectable};
 ghost use Rattle.pb_archive.specs.Plan.{IsPlan};
 ghost use Rattle.pb_archive.specs.Seen.{seen_table};
 
@@ -64,7 +65,8 @@ impl Archive {
     /// The table of this place, from 0 in the order in which they were added; none where it isn't below the number of
     /// tables.
     pub fn table(&self, id: TableId) -> Option<TableView>
-        ensures { option_map seen_table result ≡ slice_get self.now.tables id.0 }
+        ensures table { option_map seen_table result ≡ slice_get self.now.tables id.0 }
+        ensures collectable { IfSome result (λ t. IsCollectable self.now.plan (seen_table t)) }
     {
         let held = self.register.tables.get(usize::from(id.0))?;
         Some(view_of(held))

@@ -71,7 +71,7 @@ pub(crate) fn word_at(bytes: &[u8], at: usize) -> u32
 }
 
 // How many bytes of an advance come before its records.
-const ADVANCE_HEAD: usize = 10;
+pub(crate) const ADVANCE_HEAD: usize = 10;
 // How many bytes of a table's entry come before its definition.
 const TABLE_HEAD: usize = 4;
 // How many bytes a stop has.
@@ -103,7 +103,8 @@ fn read_table(alloc: Global, body: &[u8]) -> Result<(u8, TableNo, Table), EntryF
     }
 }
 
-fn read_advance(body: &[u8]) -> Option<(TableId, Advance)>
+/// Reads an advance, whose first byte was seen.
+pub(crate) fn read_advance(body: &[u8]) -> Option<(TableId, Advance)>
     requires { 0 < length body.now }
     ensures read { IfSome result (λ r. drop 1 body.now ≡ drop 1 (entry.change_bytes (entry.Advanced r.0.0 (inside.seen_advance r.1)))) }
     ensures wrong { result ≡ None → (id : ℕ) (a : _) → drop 1 body.now ≡ drop 1 (entry.change_bytes (entry.Advanced id a)) → ⊥ }

@@ -61,8 +61,8 @@ fn is_timed(layout: Layout, advance: &Advance) -> bool
     has_times(layout, advance.count, advance.bytes)
 }
 
-// Whether the bytes of an advance are exactly those of its form.
-fn has_form(layout: Layout, advance: &Advance) -> bool
+/// Whether the bytes of an advance are exactly those of its form.
+pub(crate) fn has_form(layout: Layout, advance: &Advance) -> bool
     requires numbers { advance.now.first.0 + advance.now.count ≤ records_max }
     ensures { IsTrue result ↔ HasForm layout (inside.seen_advance advance.now) }
 {
@@ -211,6 +211,14 @@ impl Register {
         ensures { self.new ≡ record { plan = self.old.plan; tables = changed_at id.0 (opened.ended stop) self.old.tables } }
     {
         self.tables[usize::from(id.0)].stop = Some(stop);
+    }
+
+    /// How a table's records are cut.
+    pub(crate) fn layout(&self, id: TableId) -> Layout
+        requires { id.0 < length self.now.tables }
+        ensures { (held : _) × (slice_get self.now.tables id.0 ≡ Some held) × (held.table.layout ≡ Ok result) }
+    {
+        self.tables[usize::from(id.0)].table.layout().unwrap()
     }
 
     /// The stop of a table.

@@ -1,5 +1,5 @@
 //! Laws of archives, and worked values of their definitions.
-ghost use Rattle.std.specs.Prelude.{◌≡◌, ℕ, pos, false, true, [], ◌∷◌, ◌++◌, List, None, Some, codes};
+ghost use Rattle.std.specs.Prelude.{◌≡◌, ℕ, pos, false, true, [], ◌∷◌, ◌++◌, List, Option, None, Some, codes};
 ghost use Rattle.pb_base.specs.declared.layout.Layout.{Layout};
 ghost use Rattle.pb_base.specs.History.{TableKey, History, Later};
 ghost use Rattle.pb_tdf.specs.Definition.{Definition};
@@ -9,6 +9,7 @@ ghost use Rattle.pb_archive.specs.Entry.{Advance, Change, Added, Advanced, Stopp
 ghost use Rattle.pb_archive.specs.Held.{HasArchive};
 ghost use Rattle.pb_archive.specs.Plan.{Plan, plan_text};
 ghost use Rattle.pb_archive.specs.Refusals.{BreaksAt};
+ghost use Rattle.pb_archive.specs.Rows.{kept, gap, rows_between};
 ghost use Rattle.pb_archive.specs.Truth.{Sound};
 
 /// A law: an archive that is true of its stations' histories stays so, whatever they store and overwrite.
@@ -71,4 +72,13 @@ fn archives_are_made()
           stop = Some (record { told = None });
         } in
         stopped ≡ record { plan = plan; tables = table ∷ [] } }
+{}
+
+// Worked values: the rows of a table with two gaps, of all of its numbers and of ranges that begin and end inside gaps.
+fn rows_are_in_order()
+    ensures { let table : List (Option (List ℕ)) = None ∷ None ∷ Some (1 ∷ []) ∷ Some (2 ∷ []) ∷ None ∷ None ∷ [] in
+        (rows_between table 0 6 ≡ gap 0 2 ∷ kept 2 (1 ∷ []) ∷ kept 3 (2 ∷ []) ∷ gap 4 6 ∷ [])
+        × (rows_between table 1 5 ≡ gap 1 2 ∷ kept 2 (1 ∷ []) ∷ kept 3 (2 ∷ []) ∷ gap 4 5 ∷ [])
+        × (rows_between table 1 2 ≡ gap 1 2 ∷ [])
+        × (rows_between table 3 3 ≡ []) }
 {}

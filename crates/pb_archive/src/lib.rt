@@ -11,6 +11,9 @@ mod opening;
 mod plan;
 mod plan_entry;
 mod plan_text;
+mod row;
+mod rows;
+mod run;
 mod table_view;
 mod writing;
 
@@ -23,6 +26,8 @@ pub use laws::{
     sound_archives_stay_sound,
 };
 pub use plan::{ADDRESS_MAX, Plan, STATION_NAME_MAX, STATIONS_MAX, StationPlan};
+pub use row::Row;
+pub use rows::Rows;
 pub use table_view::{Stop, TableView};
 
 #[cfg(test)]

@@ -1,6 +1,7 @@
 -- What a run of bytes shows.
 use Rattle.std.proofs.Common.{◌≡◌, ◌⊎◌, ℕ, ◌+◌, ◌<◌, ◌≤◌, List, [], ◌∷◌, ◌++◌, Option, Some, None, length, take, drop, get_or, MatchOption, length-append, refl, sym, ap, subst, ◌∙◌, append_assoc, arith, inl, inr}
 use Rattle.std.proofs.lemmas.List.{drop_more, take-append-drop, length-take-le}
+use Rattle.std.proofs.lemmas.List.Elements.{Contains-append_right}
 use Rattle.pb_frame.specs.declared.heard.Heard.{Heard}
 use Rattle.pb_frame.specs.declared.heard.Heard.TheVariants.{Nothing, Body, Bad}
 use Rattle.pb_frame.specs.Framing.{Verdict, Whole}
@@ -131,6 +132,15 @@ heeds_body k content e e_new is h = record { same = h.same; due = go h.due }
     go (inl (seconds, asks, set)) = inl (seconds, record { before = []; one = record { piece = k.piece; outcome = Whole k.content }; after = []; is = refl; shows = subst (AsksToWait e.asked seconds) is asks; none_after = tt }, set)
     go (inr (never, same)) = inr ((λ seconds asks. never seconds (subst (AsksToWait e.asked seconds) (sym is) asks), tt), same)
 
+-- ---- what the unframer holds
+
+pub Holds-after : {E : Type 0} (P : E → List ℕ → Type 0) (e : E) (us vs : List Verdict) (ear : Hearing) → Holds P e vs ear → Holds P e (us ++ vs) ear
+Holds-after P e us vs ear h = record { holds = h.holds; shows = h.shows; piece = h.piece; was_shown = Contains-append_right us vs (record { piece = h.piece; outcome = Whole ear.content }) h.was_shown }
+
+kept_after : {E : Type 0} (P : E → List ℕ → Type 0) (us vs : List Verdict) (ear : Hearing) (r : Option E) → MatchOption r (Unit {0}) (λ e. Holds P e vs ear) → MatchOption r (Unit {0}) (λ e. Holds P e (us ++ vs) ear)
+kept_after P us vs ear None kept = tt
+kept_after P us vs ear (Some e) kept = Holds-after P e us vs ear kept
+
 -- ---- runs of bytes
 
 module _ {E : Type 0} (P : E → List ℕ → Type 0) where
@@ -149,7 +159,7 @@ module _ {E : Type 0} (P : E → List ℕ → Type 0) where
     count = omega (arith, f.count, g.count, length-append f.pushed g.pushed);
     split = f.split ∙ ap (λ l. f.pushed ++ l) g.split ∙ sym (append_assoc f.pushed g.pushed c.inbox);
     outcome = outcome_after P f.shown g.shown r f.outcome g.outcome;
-    kept = g.kept;
+    kept = kept_after P f.shown g.shown c.ear r g.kept;
     some = some_more f.pushed g.pushed r g.some;
     heeds = Heeds-trans f.shown g.shown e_a e_b e_c f.heeds g.heeds;
   }
@@ -175,14 +185,14 @@ module _ {E : Type 0} (P : E → List ℕ → Type 0) where
   one_byte byte (Some e) = omega arith
 
   pushed_byte : (a : Listening) (e e_new : Waiting) (h : Hearing) (byte : ℕ) (rest : List ℕ) (vs : List Verdict) (r : Option E) → a.inbox ≡ byte ∷ rest → Follows a.ear (byte ∷ []) vs h → h.count ≡ a.ear.count + 1
-      → MatchOption r (NoneShows P vs) (λ e. EndsWith P e vs) → MatchOption r (Unit {0}) (λ e. Holds P e h) → Heeds vs e e_new → Judged P a e r (record { ear = h; inbox = rest }) e_new
+      → MatchOption r (NoneShows P vs) (λ e. EndsWith P e vs) → MatchOption r (Unit {0}) (λ e. Holds P e vs h) → Heeds vs e e_new → Judged P a e r (record { ear = h; inbox = rest }) e_new
   pushed_byte a e e_new h byte rest vs r is follows count outcome kept heeds = record { pushed = byte ∷ []; shown = vs; follows = follows; count = count; split = is; outcome = outcome; kept = kept; some = one_byte byte r; heeds = heeds }
 
   drop_one : (l : List ℕ) (n : ℕ) → n < length l → drop n l ≡ get_or l n 0 ∷ drop (n + 1) l
   drop_one l n below = drop_more l n 0 below
 
   run_and_byte : (a : Listening) (e e_new : Waiting) (h k : Hearing) (n : ℕ) (vs : List Verdict) (r : Option E) → n < length a.inbox → Follows a.ear (take n a.inbox) [] h → h.count ≡ a.ear.count + n
-      → Follows h (get_or a.inbox n 0 ∷ []) vs k → k.count ≡ h.count + 1 → MatchOption r (NoneShows P vs) (λ e. EndsWith P e vs) → MatchOption r (Unit {0}) (λ e. Holds P e k) → Heeds vs e e_new → Judged P a e r (record { ear = k; inbox = drop (n + 1) a.inbox }) e_new
+      → Follows h (get_or a.inbox n 0 ∷ []) vs k → k.count ≡ h.count + 1 → MatchOption r (NoneShows P vs) (λ e. EndsWith P e vs) → MatchOption r (Unit {0}) (λ e. Holds P e vs k) → Heeds vs e e_new → Judged P a e r (record { ear = k; inbox = drop (n + 1) a.inbox }) e_new
   run_and_byte a e e_new h k n vs r below follows count follows_then count_then outcome kept heeds =
       Judged-after a (record { ear = h; inbox = drop n a.inbox }) (record { ear = k; inbox = drop (n + 1) a.inbox }) e e e_new r
       (Judged-plain a e h n (omega arith) follows count)
@@ -206,9 +216,9 @@ module _ {E : Type 0} (P : E → List ℕ → Type 0) where
   body_outcome k content None is none = (λ e shows. none e (subst (P e) (sym is) shows), tt)
   body_outcome k content (Some e) is shows = record { before = []; last = record { piece = k.piece; outcome = Whole k.content }; is = refl; none_before = tt; shows = subst (P e) is shows }
 
-  body_kept : (k : Hearing) (content : List ℕ) (r : Option E) → content ≡ k.content → HoldsContent k → MatchOption r ((e : E) → P e content → ⊥) (λ e. P e content) → MatchOption r (Unit {0}) (λ e. Holds P e k)
+  body_kept : (k : Hearing) (content : List ℕ) (r : Option E) → content ≡ k.content → HoldsContent k → MatchOption r ((e : E) → P e content → ⊥) (λ e. P e content) → MatchOption r (Unit {0}) (λ e. Holds P e (record { piece = k.piece; outcome = Whole k.content } ∷ []) k)
   body_kept k content None is holds none = tt
-  body_kept k content (Some e) is holds shows = record { holds = holds; shows = subst (P e) is shows }
+  body_kept k content (Some e) is holds shows = record { holds = holds; shows = subst (P e) is shows; piece = k.piece; was_shown = (0, omega arith, refl) }
 
   pub Judged-body : (a : Listening) (e e_new : Waiting) (h k : Hearing) (n at : ℕ) (bytes left content : List ℕ) (r : Option E) → bytes ≡ a.inbox → n < length a.inbox → Follows a.ear (take n bytes) [] h → h.count ≡ a.ear.count + n
       → Follows h (get_or bytes n 0 ∷ []) (shown k (Body at)) k → k.count ≡ h.count + 1 → left ≡ drop (n + 1) a.inbox → content ≡ k.content → HoldsContent k

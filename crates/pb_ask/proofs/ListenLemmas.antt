@@ -13,11 +13,11 @@ use Rattle.pb_ask.specs.declared.question.Outcome.{Outcome}
 use Rattle.pb_ask.specs.declared.question.Outcome.TheVariants.{Answer, Undelivered, NoAnswer, Flooded}
 use Rattle.pb_ask.specs.Asking.{Sending, Resent, OutcomeOf, Hears, Asks, JudgedAs, Breaks, Unsent, SentOnly, Hearing, Stops}
 use Rattle.pb_ask.specs.Events.{HearsOnly}
-use Rattle.pb_ask.specs.Judging.{NoneShows}
+use Rattle.pb_ask.specs.Judging.{NoneShows, Holds}
 use Rattle.pb_ask.specs.Listening.{Listening, IsListening}
 use Rattle.pb_ask.specs.Wanted.{Wanted, EndsBy}
 use Rattle.pb_ask.proofs.EventLemmas.{bytes_heard-append, bytes_heard-nil, bytes_heard-sent, HearsOnly-heard, HearsOnly-sent, sent-append}
-use Rattle.pb_ask.proofs.JudgeLemmas.{NoneShows-append, EndsWith-after}
+use Rattle.pb_ask.proofs.JudgeLemmas.{NoneShows-append, EndsWith-after, Holds-after}
 
 -- ---- what was heard since the stream began
 
@@ -130,6 +130,13 @@ module _ {A : Type 0} (wanted : Wanted A) (limits : Limits) where
     asks_judged outcome h =
         let first = hears_resent h.resends old h.before h.mid h.resent in
         (Hears-trans old h.mid new h.before (Sent wanted.frame ∷ h.last.heard) first.0 (Hears-sending h.mid new h.due h.last), judged_as outcome h.resends h.mid h.due h.last first.0.shown first.1 h.ended)
+
+    -- the content that the unframer holds is among them
+    pub asks_held : (answer : A) (h : Asks wanted limits old a (Answer answer) new b) → (all : Hears old (h.before ++ (Sent wanted.frame ∷ h.last.heard)) new) × Holds (EndsBy wanted) (ended.Answer answer) all.shown new.ear
+    unfolding HearsVain Hears-trans
+    asks_held answer h =
+        let first = hears_resent h.resends old h.before h.mid h.resent in
+        (Hears-trans old h.mid new h.before (Sent wanted.frame ∷ h.last.heard) first.0 (Hears-sending h.mid new h.due h.last), Holds-after (EndsBy wanted) (ended.Answer answer) first.0.shown h.last.shown new.ear h.ended.1)
 
     pub stops_judged : (h : Stops wanted limits old a new b) → (all : Hears old (h.before ++ h.rest) new) × NoneShows (EndsBy wanted) all.shown
     unfolding HearsVain Hears-nil

@@ -28,7 +28,7 @@ use Rattle.pb_ask.specs.Ticking.{RoseBy, IsDue}
 use Rattle.pb_ask.specs.Wanted.{Wanted, EndsBy, outcome_is}
 use Rattle.pb_ask.proofs.DueLemmas.{due_first, due_chunk, due_tick}
 use Rattle.pb_ask.proofs.EventLemmas.{bytes_heard-append, quiet_ticks-append, bytes_heard-nil, quiet_ticks-nil, bytes_heard-arrival, quiet_ticks-quiet, quiet_ticks-bytes, HearsOnly-append, HearsOnly-arrival}
-use Rattle.pb_ask.proofs.JudgeLemmas.{NoneShows-append, EndsWith-after}
+use Rattle.pb_ask.proofs.JudgeLemmas.{Holds-after, NoneShows-append, EndsWith-after}
 
 -- ---- counts
 
@@ -146,7 +146,7 @@ module _ {A : Type 0} (wanted : Wanted A) (old : Listening) (w : Link) (e_old : 
       }
 
   -- a frame ended the request
-  ends_as : (found : Ended A) (resends : ℕ) (new : Listening) (due : ℕ) (s : Sending wanted e_old.limits old due new) → EndsWith P found s.shown → Holds P found new.ear → CameWith s.heard new.inbox → 0 < due
+  ends_as : (found : Ended A) (resends : ℕ) (new : Listening) (due : ℕ) (s : Sending wanted e_old.limits old due new) → EndsWith P found s.shown → Holds P found s.shown new.ear → CameWith s.heard new.inbox → 0 < due
       → OutcomeOf wanted e_old.limits resends old new due s (outcome_is found)
   ends_as (ended.Answer answer) resends new due s ends holds came some = (ends, holds, came, some)
   ends_as (ended.Undelivered code) resends new due s ends holds came some = (ends, came, some)
@@ -256,7 +256,7 @@ module _ {A : Type 0} (wanted : Wanted A) (old : Listening) (w : Link) (e_old : 
           (
             resends.0,
             resends.1,
-            ends_as found resends.0 new e_new.due one (EndsWith-after P found s.shown j.shown l.none j.outcome) j.kept
+            ends_as found resends.0 new e_new.due one (EndsWith-after P found s.shown j.shown l.none j.outcome) (Holds-after P found s.shown j.shown new.ear j.kept)
                 (inr (s.heard, j.pushed, ap (λ k. s.heard ++ k) (arrival-some bytes some ∙ ap all_heard j.split), j.some, omega (arith, few, ap length j.split))) (mid_some (Some found) e_new j),
           ),
         )

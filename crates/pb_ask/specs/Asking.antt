@@ -55,7 +55,7 @@ Resent wanted limits (suc n) old events new =
 abbrev pub OutcomeOf : {A : Type 0} (wanted : Wanted A) (limits : Limits) (resends : ℕ) (mid new : Listening) (due : ℕ)
     → Sending wanted limits mid due new → Outcome A → Type 0
 OutcomeOf wanted limits resends mid new due s (Answer answer) =
-    EndsWith (EndsBy wanted) (ended.Answer answer) s.shown × Holds (EndsBy wanted) (ended.Answer answer) new.ear
+    EndsWith (EndsBy wanted) (ended.Answer answer) s.shown × Holds (EndsBy wanted) (ended.Answer answer) s.shown new.ear
     × CameWith s.heard new.inbox × (0 < due)
 OutcomeOf wanted limits resends mid new due s (Undelivered code) =
     EndsWith (EndsBy wanted) (ended.Undelivered code) s.shown × CameWith s.heard new.inbox × (0 < due)

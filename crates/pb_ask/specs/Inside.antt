@@ -44,7 +44,7 @@ pub record Judged {E : Type 0} (P : E → List ℕ → Type 0) (old : Listening)
   pub count : new.ear.count ≡ old.ear.count + length pushed
   pub split : old.inbox ≡ pushed ++ new.inbox
   pub outcome : MatchOption result (NoneShows P shown) (λ e. EndsWith P e shown)
-  pub kept : MatchOption result (Unit {0}) (λ e. Holds P e new.ear)
+  pub kept : MatchOption result (Unit {0}) (λ e. Holds P e shown new.ear)
   pub some : MatchOption result (Unit {0}) (λ e. 0 < length pushed)
   pub heeds : Heeds shown e_old e_new
 

@@ -1,5 +1,6 @@
 -- What heard bytes show, where P says which content of a good body shows what.
 use Rattle.std.specs.Prelude.{◌≡◌, ℕ, List, [], ◌∷◌, ◌++◌}
+use Rattle.std.specs.List.{Contains}
 use Rattle.pb_frame.specs.Framing.{Finding, Whole, Faulty, Verdict}
 use Rattle.pb_frame.specs.Hearing.{Hearing, Follows, HoldsContent}
 
@@ -33,10 +34,12 @@ pub record LastShows {E : Type 0} (P : E → List ℕ → Type 0) (e : E) (shown
   pub shows : Shows P e one
   pub none_after : NoneShows P after
 
--- the unframer still holds the content that shows e
-pub record Holds {E : Type 0} (P : E → List ℕ → Type 0) (e : E) (ear : Hearing) : Type 0 where
+-- the unframer still holds the content that shows e, and that is the content of one of these verdicts
+pub record Holds {E : Type 0} (P : E → List ℕ → Type 0) (e : E) (shown : List Verdict) (ear : Hearing) : Type 0 where
   pub holds : HoldsContent ear
   pub shows : P e ear.content
+  pub piece : ℕ
+  pub was_shown : Contains shown (record { piece = piece; outcome = Whole ear.content })
 
 -- the unframer shows these verdicts on these bytes
 abbrev pub ShownBy : Hearing → List ℕ → List Verdict → Type 0

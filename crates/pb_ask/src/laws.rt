@@ -1,5 +1,6 @@
 //! What a caller may take from a request that was asked.
 ghost use Rattle.std.specs.Prelude.{◌≡◌, ℕ, ◌≤◌, List, ◌∷◌, ◌++◌, length, drop, All};
+ghost use Rattle.pb_frame.specs.Framing.{Verdict};
 ghost use Rattle.pb_frame.specs.Hearing.{Hearing, StandsFor};
 ghost use Rattle.pb_base.specs.World.{World, Sent, sent};
 ghost use Rattle.pb_io.specs.View.{Link};
@@ -14,11 +15,13 @@ ghost use Rattle.pb_ask.specs.Wanted.{EndsBy};
 use crate::question::{Ended, Question};
 
 /// All that was judged in one call: the first frame that ends the request is the last that was judged, and where the
-/// outcome is none of a frame, or a call failed, none did.
+/// outcome is none of a frame, or a call failed, none did. The content of an answer is that of one of the verdicts.
 pub fn law_judged<Q: Question>()
     ensures asks { (q : Q) (limits : Limits) (old new : Listening) (a b : Link) (outcome : Outcome Q.Answer)
         (h : Asks (Q.wanted q) limits old a outcome new b)
         → (all : Hears old (h.before ++ (Sent (Q.wanted q).frame ∷ h.last.heard)) new) × JudgedAs (Q.wanted q) outcome all.shown }
+    ensures held { (q : Q) (limits : Limits) (old new : Listening) (a b : Link) (answer : Q.Answer) (h : Asks (Q.wanted q) limits old a (Outcome.Answer answer) new b)
+        → (all : Hears old (h.before ++ (Sent (Q.wanted q).frame ∷ h.last.heard)) new) × Holds (EndsBy (Q.wanted q)) (Ended.Answer answer) all.shown new.ear }
     ensures stops { (q : Q) (limits : Limits) (old new : Listening) (a b : Link) (h : Stops (Q.wanted q) limits old a new b)
         → (all : Hears old (h.before ++ h.rest) new) × NoneShows (EndsBy (Q.wanted q)) all.shown }
 {}
@@ -59,6 +62,7 @@ pub fn law_resent<Q: Question>()
 
 /// Right after an answer the message that means it stands after the eight bytes of its header.
 pub fn law_message<Q: Question>()
-    ensures { (q : Q) (answer : Q.Answer) (ear : Hearing) → Holds (EndsBy (Q.wanted q)) (Ended.Answer answer) ear
+    ensures { (q : Q) (answer : Q.Answer) (shown : List Verdict) (ear : Hearing)
+        → Holds (EndsBy (Q.wanted q)) (Ended.Answer answer) shown ear
         → (8 ≤ length ear.content) × (Q.wanted q).takes answer (drop 8 ear.content) }
 {}

@@ -16,57 +16,13 @@ use Rattle.pb_base.proofs.TextLaws.{time_there}
 use Rattle.pb_bmp5.specs.CollectReply.{SeenFragment, whole, part, SeenReply, fragment_bytes, rest_of, Begins, AreFragments, CollectReads}
 use Rattle.pb_archive.specs.Archive.{Table, front, grown}
 use Rattle.pb_archive.specs.Entry.{Advance, pieces, contents}
+use Rattle.pb_archive.proofs.RunLemmas.{pieces_are}
 use Rattle.pb_truth.specs.Learning.{Known, without_partial, BeginsFrom, BeginsWithPart, FitsNext, FitsKnown, taken, learned}
 use Rattle.pb_truth.specs.Keeping.{run_advance, gap_advance, content_advance, advances, table_after, CanBeKept, CanAllBeKept}
 use Rattle.pb_truth.proofs.LearningLemmas.{front-grown, length-run, part_is_last, fragments_in, IsFront-refl, IsFront-trans, learned_adds}
 use Rattle.pb_truth.proofs.TableLemmas.{sound_front}
 
 -- ---- contents of a run with a time for each record
-
-abbrev time_by : List ℕ → List ℕ → Nsec
-time_by a b = record { sec = cast_signed w32 (from_be_bytes w32 a); nano = cast_signed w32 (from_be_bytes w32 b) }
-
-time_first : (bytes : List ℕ) → time_of (take 8 bytes) ≡ time_of bytes
-time_first bytes =
-    ap (λ l. time_by l (take 4 (drop 4 (take 8 bytes)))) (take-take 4 8 bytes (omega arith))
-    ∙ ap (λ l. time_by (take 4 bytes) l) (ap (take 4) (drop-take 4 4 bytes) ∙ take-take 4 4 (drop 4 bytes) (omega arith))
-
--- a content's beginning: its time, and then its field bytes
-content_there : (bytes : List ℕ) (n : ℕ) → 8 ≤ length bytes → IsBytes bytes → time_bytes (time_of bytes) ++ take n (drop 8 bytes) ≡ take (8 + n) bytes
-content_there bytes n long fits =
-    ap (λ t. time_bytes t ++ take n (drop 8 bytes)) (sym (time_first bytes))
-    ∙ ap (λ l. l ++ take n (drop 8 bytes)) (time_there (take 8 bytes) (length-take-le 8 bytes long) (IsBytes-take 8 bytes fits))
-    ∙ take_two 8 n bytes
-  where
-    take_two : (m n : ℕ) (xs : List ℕ) → take m xs ++ take n (drop m xs) ≡ take (m + n) xs
-    take_two m n xs =
-        ap (λ l. l ++ take n (drop m xs)) (sym (take-take m (m + n) xs (omega arith)))
-        ∙ ap (λ l. take m (take (m + n) xs) ++ l) (sym (drop-take m n xs)) ∙ take-append-drop m (take (m + n) xs)
-
-abbrev events : ℕ → Nsec → Layout
-events size interval = record { record_len = size; event = true; interval = interval }
-
-pieces_are : (size : ℕ) (interval : Nsec) (run : List ℕ) (k n : ℕ) → (k + n) * (8 + size) ≤ length run → IsBytes run
-    → pieces (8 + size) n (drop (k * (8 + size)) run) ≡ map content (records_from (events size interval) run k n)
-pieces_are size interval run k zero long fits = refl
-pieces_are size interval run k (suc n) long fits =
-    let s = 8 + size in
-    let here = drop (k * s) run in
-    let fills = times k n s in
-    let some : 8 ≤ length here = omega (arith, long, fills, length-drop (k * s) run) in
-    let head : take s here ≡ time_bytes (time_of here) ++ take size (drop (8 + k * s) run) =
-    sym (content_there here size some (IsBytes-drop (k * s) run fits))
-    ∙ ap (λ l. time_bytes (time_of here) ++ take size l) (drop-drop 8 (k * s) run ∙ ap (λ i. drop i run) (omega arith)) in
-    let rest : drop s here ≡ drop (suc k * s) run = drop-drop s (k * s) run ∙ ap (λ i. drop i run) (once_more k s) in
-    ap (λ c. c ∷ pieces s n (drop s here)) head
-    ∙ ap (λ l. (time_bytes (time_of here) ++ take size (drop (8 + k * s) run)) ∷ l)
-    (ap (λ l. pieces s n l) rest ∙ pieces_are size interval run (suc k) n (subst (λ i. i * s ≤ length run) (omega arith) long) fits)
-  where
-    once_more : (k s : ℕ) → k * s + s ≡ suc k * s
-    once_more k s = grind arith
-
-    times : (k n s : ℕ) → k * s + s ≤ (k + suc n) * s
-    times k n s = let e : (k + suc n) * s ≡ k * s + (n * s + s) = grind arith in omega (arith, e)
 
 -- a run's contents, as they came
 run_kept : (size : ℕ) (event : Bool) (interval : Nsec) (first count : ℕ) (bytes : List ℕ) → IsBytes bytes
@@ -149,7 +105,7 @@ bytes_before : (xs ys : List ℕ) → IsBytes (xs ++ ys) → IsBytes xs
 bytes_before xs ys fits = subst IsBytes (take_at xs ys (length xs) refl) (IsBytes-take (length xs) (xs ++ ys) fits)
 
 -- the bytes at which reading goes on
-rest_bytes : (table : ℕ) (layout : Layout) (before : Option ℕ) (f : SeenFragment) (body rest : List ℕ) → Begins table layout before f body rest → IsBytes body → IsBytes rest
+pub rest_bytes : (table : ℕ) (layout : Layout) (before : Option ℕ) (f : SeenFragment) (body rest : List ℕ) → Begins table layout before f body rest → IsBytes body → IsBytes rest
 rest_bytes table layout before f body rest b fits = subst IsBytes (sym b.goes) (after f (bytes_after (fragment_bytes table f) b.after (subst IsBytes b.leads.parts fits)))
   where
     after : (g : SeenFragment) → IsBytes b.after → IsBytes (rest_of g b.after)
@@ -157,7 +113,7 @@ rest_bytes table layout before f body rest b fits = subst IsBytes (sym b.goes) (
     after (whole first (suc n) bytes) h = h
     after (part number offset bytes) h = h
 
-run_bytes : (table : ℕ) (layout : Layout) (before : Option ℕ) (first n : ℕ) (bytes body rest : List ℕ) → Begins table layout before (whole first n bytes) body rest → IsBytes body → IsBytes bytes
+pub run_bytes : (table : ℕ) (layout : Layout) (before : Option ℕ) (first n : ℕ) (bytes body rest : List ℕ) → Begins table layout before (whole first n bytes) body rest → IsBytes body → IsBytes bytes
 run_bytes table layout before first n bytes body rest b fits =
     bytes_after (to_be_bytes w16 n) bytes (bytes_after (to_be_bytes w32 first) (to_be_bytes w16 n ++ bytes)
     (bytes_after (to_be_bytes w16 table) (to_be_bytes w32 first ++ (to_be_bytes w16 n ++ bytes))

@@ -5,6 +5,7 @@ use Rattle.std.specs.List.{AllByRecursion}
 use Rattle.std.proofs.lemmas.Option.{same_Some, none-some}
 use Rattle.pb_base.specs.World.{World}
 use Rattle.pb_base.specs.History.{TableKey, History, IsFront, history}
+use Rattle.pb_tdf.specs.View.{signature_of}
 use Rattle.pb_archive.specs.declared.plan.StationPlan.{StationPlan}
 use Rattle.pb_archive.specs.Plan.{Plan, Differs, AreDifferent, IsPlan}
 use Rattle.pb_archive.specs.Archive.{Table, Archive, record_layout, changed_at, grown, stopped}
@@ -48,22 +49,24 @@ one_station (x ∷ ss) different (suc i) zero s t a b same =
     absurd ((all_at (Differs x) ss i s different.0 a).0 (same ∙ sym (ap (λ (y : StationPlan). y.addr) (same_Some x t b))))
 one_station (x ∷ ss) different (suc i) (suc j) s t a b same = ap suc (one_station ss different.1 i j s t a b same)
 
-record IsOf (p : Plan) (t : Table) : Type 0 where
-  me : t.me ≡ p.me
-  address : t.key.station ≡ address_of (slice_get p.stations t.station)
-  within : t.station < length p.stations
+pub record IsOf (p : Plan) (t : Table) : Type 0 where
+  pub me : t.me ≡ p.me
+  pub address : t.key.station ≡ address_of (slice_get p.stations t.station)
+  pub within : t.station < length p.stations
+  pub signature : t.key.signature ≡ signature_of t.definition
 
 -- what is so of every archive of entries
-record IsKept (a : Archive) : Type 0 where
-  plan : IsPlan a.plan
-  each : (id : ℕ) (t : Table) → slice_get a.tables id ≡ Some t → IsOf a.plan t
-  one : (i j : ℕ) (t u : Table) → slice_get a.tables i ≡ Some t → slice_get a.tables j ≡ Some u → t.station ≡ u.station → t.key.number ≡ u.key.number → i ≡ j
+pub record IsKept (a : Archive) : Type 0 where
+  pub plan : IsPlan a.plan
+  pub each : (id : ℕ) (t : Table) → slice_get a.tables id ≡ Some t → IsOf a.plan t
+  pub one : (i j : ℕ) (t u : Table) → slice_get a.tables i ≡ Some t → slice_get a.tables j ≡ Some u → t.station ≡ u.station → t.key.number ≡ u.key.number → i ≡ j
 
 -- a change of a table's rows or stop
 record SameSlot (t u : Table) : Type 0 where
   me : u.me ≡ t.me
   station : u.station ≡ t.station
   key : u.key ≡ t.key
+  definition : u.definition ≡ t.definition
 
 changed_kept : (a : Archive) (n : ℕ) (f : Table → Table) → ((t : Table) → SameSlot t (f t)) → IsKept a → IsKept (record a { tables = changed_at n f a.tables })
 changed_kept a n f same kept = record {
@@ -75,6 +78,7 @@ changed_kept a n f same kept = record {
         me = x.2.me ∙ of.me;
         address = ap (λ (k : TableKey). k.station) x.2.key ∙ of.address ∙ ap (λ s. address_of (slice_get a.plan.stations s)) (sym x.2.station);
         within = omega (arith, x.2.station, of.within);
+        signature = ap (λ (k : TableKey). k.signature) x.2.key ∙ of.signature ∙ ap signature_of (sym x.2.definition);
       };
   one = λ i j t u is_t is_u station number.
       let x = slot i t is_t in
@@ -86,13 +90,13 @@ changed_kept a n f same kept = record {
     slot : (id : ℕ) (u : Table) → slice_get (changed_at n f a.tables) id ≡ Some u → (t : Table) × (slice_get a.tables id ≡ Some t) × SameSlot t u
     slot id u is =
         let x = changed_one n f a.tables id u is in
-        (x.0, x.1, ⊎_elim (λ old. subst (λ y. SameSlot x.0 y) old (record { me = refl; station = refl; key = refl })) (λ new. subst (λ y. SameSlot x.0 y) new.1 (same x.0)) x.2)
+        (x.0, x.1, ⊎_elim (λ old. subst (λ y. SameSlot x.0 y) old (record { me = refl; station = refl; key = refl; definition = refl })) (λ new. subst (λ y. SameSlot x.0 y) new.1 (same x.0)) x.2)
 
 kept_after : (a : Archive) (change : Change) → IsKept a → IsAllowed a change → IsKept (archive_after a change)
 kept_after a (Added station number definition) kept allowed = record {
   plan = kept.plan;
   each = λ id t is. ⊎_elim (λ old. kept.each id t old)
-      (λ new. subst (λ u. IsOf a.plan u) new.1 (record { me = refl; address = refl; within = allowed.there })) (pushed_at a.tables fresh id t is);
+      (λ new. subst (λ u. IsOf a.plan u) new.1 (record { me = refl; address = refl; within = allowed.there; signature = refl })) (pushed_at a.tables fresh id t is);
   one = λ i j t u is_t is_u same_station same_number.
       ⊎_elim (λ old_t. ⊎_elim (λ old_u. kept.one i j t u old_t old_u same_station same_number)
       (λ new_u. absurd (allowed.new i t old_t (same_station ∙ ap (λ (x : Table). x.station) (sym new_u.1)) (same_number ∙ ap (λ (x : Table). x.key.number) (sym new_u.1)))) (pushed_at a.tables fresh j u is_u))
@@ -104,14 +108,14 @@ kept_after a (Added station number definition) kept allowed = record {
     fresh : Table
     fresh = new_table a.plan station number definition
 kept_after a (Advanced id advance) kept allowed =
-    changed_kept a id (λ t. grown advance.first (contents (record_layout t.definition) advance) t) (λ t. record { me = refl; station = refl; key = refl }) kept
-kept_after a (Stopped id stop) kept allowed = changed_kept a id (stopped stop) (λ t. record { me = refl; station = refl; key = refl }) kept
+    changed_kept a id (λ t. grown advance.first (contents (record_layout t.definition) advance) t) (λ t. record { me = refl; station = refl; key = refl; definition = refl }) kept
+kept_after a (Stopped id stop) kept allowed = changed_kept a id (stopped stop) (λ t. record { me = refl; station = refl; key = refl; definition = refl }) kept
 
 leads_kept : (bodies : List (List ℕ)) (a b : Archive) → IsKept a → Leads a bodies b → IsKept b
 leads_kept [] a b kept leads = subst (λ x. IsKept x) (sym leads) kept
 leads_kept (body ∷ bodies) a b kept leads = leads_kept bodies (archive_after a leads.0) b (kept_after a leads.0 kept leads.2) leads.3
 
-is_kept : (bodies : List (List ℕ)) (a : Archive) → IsArchive bodies a → IsKept a
+pub is_kept : (bodies : List (List ℕ)) (a : Archive) → IsArchive bodies a → IsKept a
 is_kept [] a is = absurd is
 is_kept (body ∷ bodies) a is = leads_kept bodies (created is.0) a (record {
   plan = is.2;

@@ -10,7 +10,7 @@ long : (header : Header) (message content : List ℕ) → content ≡ packet_byt
 long header message content is = omega (arith, ap length is)
 
 pub returns : goal.returns
-returns g c = λ q answer ear h. (
+returns g c = λ q answer shown ear h. (
   long h.shows.header h.shows.message ear.content h.shows.packet.bytes,
   subst (λ (l : List ℕ). (g.Q.Question.wanted q).takes answer l) (sym (message_is h.shows.header h.shows.message ear.content h.shows.packet.bytes)) h.shows.is.1,
 )

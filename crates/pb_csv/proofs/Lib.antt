@@ -1,0 +1,4 @@
+pub mod ColumnsLemmas
+pub mod LineLemmas
+pub mod ExportLemmas
+pub mod RangeLemmas

@@ -1,0 +1,3 @@
+pub mod CsvText
+pub mod Export
+pub mod Inside
