@@ -1,0 +1,66 @@
+-- What a collect command asks: its frame, and which replies answer it.
+use Rattle.std.specs.Prelude.{◌≡◌, ℕ, List, []}
+use Rattle.pb_base.specs.Request.{Request}
+use Rattle.pb_frame.specs.Framing.{frame}
+use Rattle.pb_packet.specs.Packet.{full, packet_bytes}
+use Rattle.pb_packet.specs.declared.headers.LinkState.TheVariants.{Ready}
+use Rattle.pb_packet.specs.declared.headers.Header.{Header}
+use Rattle.pb_packet.specs.declared.headers.TheConstants.{PROTO_BMP5}
+use Rattle.pb_bmp5.specs.CollectReply.{SeenReply, CollectReads}
+use Rattle.pb_bmp5.specs.Message.{Collect, CollectKeys, message_bytes}
+use Rattle.pb_ask.specs.Wanted.{Wanted}
+use Rattle.pb_truth.specs.Asked.{request_of, IsIn}
+use Rattle.pb_collect.specs.Progress.{Fits}
+use Rattle.pb_collect.specs.declared.answer.Said.{Said}
+use Rattle.pb_collect.specs.declared.question.CollectCommand.{CollectCommand}
+
+-- ---- what is sent
+
+-- a BMP5 command, after which more is expected; it goes to the neighbour
+abbrev pub command_header : CollectCommand → Header
+command_header c =
+    record {
+      phys = record { state = Ready; dst = c.via; more = 1; priority = 1; src = c.me };
+      proto = PROTO_BMP5;
+      dst = c.station;
+      hops = 0;
+      src = c.me;
+    }
+
+-- all fields are asked for
+abbrev pub command_keys : CollectCommand → CollectKeys
+command_keys c = record { code = c.code; mode = c.mode; table = c.table.0; sig = c.sig; fields = [] }
+
+abbrev pub command_message : CollectCommand → List ℕ
+command_message c = message_bytes (Collect c.tran (command_keys c))
+
+abbrev pub command_content : CollectCommand → List ℕ
+command_content c = packet_bytes (full (command_header c) (command_message c))
+
+unfoldable pub command_frame : CollectCommand → List ℕ
+command_frame c = frame (command_content c)
+
+-- the request that the command is
+abbrev pub command_request : CollectCommand → Request
+command_request c = request_of (command_header c) c.tran (command_keys c)
+
+-- the command's frame asks for nothing else
+abbrev pub AsksOnce : CollectCommand → Type 0
+AsksOnce c = (r : Request) → IsIn r (command_frame c) → r ≡ command_request c
+
+-- ---- what answers
+
+-- The message reads as a reply for the table that fits what was asked, and this is what it says beside its records.
+pub record MeansReply (c : CollectCommand) (said : Said) (message : List ℕ) : Type 0 where
+  pub reply : SeenReply
+  pub reads : CollectReads c.table.0 c.layout reply message
+  pub fits : Fits c.mode reply
+  pub resp : reply.resp ≡ said.resp
+  pub more : reply.more ≡ said.more
+
+abbrev pub wanted_reply : CollectCommand → Wanted Said
+wanted_reply c = record {
+  frame = command_frame c;
+  asked = record { me = c.me; station = c.station; proto = PROTO_BMP5; kind = 0x09; tran = c.tran };
+  takes = MeansReply c;
+}
