@@ -1,0 +1,5 @@
+pub mod Inside
+pub mod Script
+pub mod ScriptRefusal
+pub mod ScriptText
+pub mod Station

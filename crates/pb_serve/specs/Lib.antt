@@ -1,0 +1,4 @@
+pub mod Inside
+pub mod Owed
+pub mod Serving
+pub mod Talks
