@@ -52,7 +52,7 @@ cut [] = record { head = []; texts = [] }
 cut (byte ∷ stream) =
     let rest = cut stream in
     if nat_eq byte flag then record { head = []; texts = rest.head ∷ rest.texts }
-        else record { head = byte ∷ rest.head; texts = rest.texts }
+    else record { head = byte ∷ rest.head; texts = rest.texts }
 
 -- a text between two flag bytes, or the open one behind the last flag byte, with the place of its first byte
 pub record Piece : Type 0 where

@@ -69,7 +69,7 @@ abbrev pub AreOver : Asked → Limits → ℕ → List Input → Type 0
 AreOver asked limits zero inputs = inputs ≡ []
 AreOver asked limits (suc n) inputs =
     (earlier : List Input) × (last : List Input) × AreOver asked limits n earlier × IsOver asked limits last
-        × (inputs ≡ earlier ++ last)
+    × (inputs ≡ earlier ++ last)
 
 -- what an exchange knows: how often was sent, and since then how many quiet ticks are still to be heard, and the bytes
 pub record Waiting : Type 0 where
