@@ -76,6 +76,22 @@ module _ (all : Rows) (to : ℕ) where
 -- ---- what a reader awaits
 
 module _ (r : Reader) (file : List ℕ) (rows : List SeenRow) (w : Awaits r file rows) (more : r.next < r.to) (known : IsKnown r) where
+  -- from a later number on
+  at_next : (row : Option SeenRow) (next : ℕ) → r.next ≤ next → Awaits (record r { row = row; next = next }) file (rows_between w.table.rows next r.to)
+  at_next row next above = record {
+    rest = w.rest;
+    ahead = w.ahead;
+    archive = w.archive;
+    goes = w.goes;
+    table = w.table;
+    there = w.there;
+    layout = w.layout;
+    within = w.within;
+    gaps = λ k low high. w.gaps k (omega arith) high;
+    kept = w.kept;
+    left = refl;
+  }
+
   gap_ends : (end : ℕ) → end ≡ min r.run.first r.to → IsKnown r → EndsGap w.table.rows r.to end
   gap_ends end is (inl past) = inl (omega arith)
   gap_ends end is (inr (some, less)) = elim (ends_at r.run.first r.to end is) [
@@ -94,19 +110,7 @@ module _ (r : Reader) (file : List ℕ) (rows : List SeenRow) (w : Awaits r file
     rows_between w.table.rows end r.to,
     w.left ∙ gap_next w.table.rows r.to r.next end (omega arith) (omega arith) (λ k low high. w.gaps k low (omega arith)) (gap_ends end is known),
     refl,
-    record {
-      rest = w.rest;
-      ahead = w.ahead;
-      archive = w.archive;
-      goes = w.goes;
-      table = w.table;
-      there = w.there;
-      layout = w.layout;
-      within = w.within;
-      gaps = λ k low high. w.gaps k (omega arith) high;
-      kept = w.kept;
-      left = refl;
-    },
+    at_next _ end (omega arith),
   )
 
   pub kept_taken : r.run.first ≤ r.next → (let k = r.next - r.run.first in ReadRow (record r { row = Some (kept (r.run.first + k) (content_at r.run r.entries.body k)); next = r.next + 1 }) file rows true)
@@ -122,19 +126,7 @@ module _ (r : Reader) (file : List ℕ) (rows : List SeenRow) (w : Awaits r file
             ∙ ap (λ i. kept i bytes ∷ rows_between w.table.rows (suc r.next) r.to) (sym here)
             ∙ ap (λ i. kept (r.run.first + k) bytes ∷ rows_between w.table.rows i r.to) (sym (add-one r.next)),
         refl,
-        record {
-          rest = w.rest;
-          ahead = w.ahead;
-          archive = w.archive;
-          goes = w.goes;
-          table = w.table;
-          there = w.there;
-          layout = w.layout;
-          within = w.within;
-          gaps = λ i low high. absurd (omega arith);
-          kept = w.kept;
-          left = refl;
-        },
+        at_next _ (r.next + 1) (omega arith),
       )
     where
       in_run : IsKnown r → r.next - r.run.first < r.run.count

@@ -75,6 +75,10 @@ pub record IsRegister (r : Register) : Type 0 where
   pub each : AllByRecursion (IsHeld r.plan) r.tables
   pub few : length r.tables ≤ tables_max
 
+-- the table at this place may be advanced so
+abbrev pub MayAdvance : Register → ℕ → Advance → Type 0
+MayAdvance r id a = (held : Held) × IsGoingOnHere r id held × CanAdvanceHere held a
+
 -- ---- plans as they are read
 
 pub record IsSpelledStation (s : StationPlan) : Type 0 where

@@ -128,3 +128,6 @@ stop_of id told = Stopped id (record { told = told })
 
 abbrev pub advance_of : ℕ → ℕ → ℕ → List ℕ → Advance
 advance_of form first count bytes = record { form = form; first = first; count = count; bytes = bytes }
+
+abbrev pub an_advance : ℕ → ℕ → ℕ → ℕ → List ℕ → Change
+an_advance id form first count bytes = Advanced id (advance_of form first count bytes)

@@ -81,7 +81,8 @@ HasRows r file = (rows : List SeenRow) × Awaits r file rows
 -- Reading begins with the rows between these numbers, of the table at this place of the file's archive.
 abbrev pub BeginsAt : Reader → ℕ → ℕ → ℕ → List ℕ → Type 0
 BeginsAt r id from to file =
-    (a : Archive) × (t : Table) × HasArchive file a × (slice_get a.tables id ≡ Some t) × Awaits r file (rows_between t.rows from to)
+    (a : Archive) × (t : Table) × HasArchive file a × (slice_get a.tables id ≡ Some t)
+    × Awaits r file (rows_between t.rows from to)
 
 -- one row was read, or there was none left
 abbrev pub ReadRow : Reader → List ℕ → List SeenRow → Bool → Type 0

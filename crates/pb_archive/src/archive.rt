@@ -1,5 +1,6 @@
 //! An archive that was opened: what is kept of it in memory, and what is asked of that.
 ghost use Rattle.std.specs.Prelude.{◌≡◌, ◌<◌, ◌≤◌, length, slice_get, option_map, position, MatchOption, IfSome, None};
+ghost use Rattle.pb_archive.specs.Entry.{tables_max};
 ghost use Rattle.pb_archive.specs.Find.{first_named};
 ghost use Rattle.pb_archive.specs.Opened.{IsCollectable};
 ghost use Rattle.pb_archive.specs.Plan.{IsPlan};
@@ -57,7 +58,8 @@ impl Archive {
 
     /// The number of tables, at most 1,024.
     pub fn tables(&self) -> u16
-        ensures { result ≡ length self.now.tables }
+        ensures count { result ≡ length self.now.tables }
+        ensures few { result ≤ tables_max }
     {
         self.register.count() as u16
     }

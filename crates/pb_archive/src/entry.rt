@@ -89,7 +89,8 @@ fn of_table(fault: TdfFault) -> EntryFault
 
 fn read_table(alloc: Global, body: &[u8]) -> Result<(u8, TableNo, Table), EntryFault>
     requires { 0 < length body.now }
-    ensures read { IfOk result (λ r. (d : _) × IsTable d × (r.2 ≡ view_of d) × (drop 1 body.now ≡ r.0 ∷ (entry.half r.1.0 ++ table_bytes d))) }
+    ensures read { IfOk result (λ r. (d : _) × IsTable d × (r.2 ≡ view_of d)
+        × (drop 1 body.now ≡ r.0 ∷ (entry.half r.1.0 ++ table_bytes d))) }
     ensures ranges { IfOk result (λ r. (r.0 < 2 ^ 8) × (r.1.0 < 2 ^ 16)) }
     ensures wrong { IfErr result (λ fault. fault ≡ EntryFault.Wrong → (station number : ℕ) (d : _) → IsTable d
         → drop 1 body.now ≡ station ∷ (entry.half number ++ table_bytes d) → ⊥) }
@@ -106,7 +107,8 @@ fn read_table(alloc: Global, body: &[u8]) -> Result<(u8, TableNo, Table), EntryF
 /// Reads an advance, whose first byte was seen.
 pub(crate) fn read_advance(body: &[u8]) -> Option<(TableId, Advance)>
     requires { 0 < length body.now }
-    ensures read { IfSome result (λ r. drop 1 body.now ≡ drop 1 (entry.change_bytes (entry.Advanced r.0.0 (inside.seen_advance r.1)))) }
+    ensures read { IfSome result (λ r. drop 1 body.now
+        ≡ drop 1 (entry.change_bytes (entry.Advanced r.0.0 (inside.seen_advance r.1)))) }
     ensures wrong { result ≡ None → (id : ℕ) (a : _) → drop 1 body.now ≡ drop 1 (entry.change_bytes (entry.Advanced id a)) → ⊥ }
 {
     if body.len() < ADVANCE_HEAD {
@@ -123,7 +125,8 @@ pub(crate) fn read_advance(body: &[u8]) -> Option<(TableId, Advance)>
 
 fn read_stop(body: &[u8]) -> Option<(TableId, Stop)>
     requires { 0 < length body.now }
-    ensures read { IfSome result (λ r. drop 1 body.now ≡ drop 1 (entry.change_bytes (entry.Stopped r.0.0 r.1))) }
+    ensures read { IfSome result (λ r. drop 1 body.now
+        ≡ drop 1 (entry.change_bytes (entry.Stopped r.0.0 r.1))) }
     ensures wrong { result ≡ None → (id : ℕ) (stop : _) → inside.IsSpelled (entry.Stopped id stop)
         → drop 1 body.now ≡ drop 1 (entry.change_bytes (entry.Stopped id stop)) → ⊥ }
 {
@@ -141,8 +144,10 @@ fn read_stop(body: &[u8]) -> Option<(TableId, Stop)>
 
 /// Reads the body of an entry after the plan. Takes memory.
 pub(crate) fn read_change(alloc: Global, body: &[u8]) -> Result<Change, EntryFault>
-    ensures read { IfOk result (λ change. (said : _) × inside.Says change said × inside.IsSpelled said × (body.now ≡ entry.change_bytes said)) }
-    ensures wrong { IfErr result (λ fault. fault ≡ EntryFault.Wrong → (said : _) → inside.IsSpelled said → body.now ≡ entry.change_bytes said → ⊥) }
+    ensures read { IfOk result (λ change. (said : _) × inside.Says change said × inside.IsSpelled said
+        × (body.now ≡ entry.change_bytes said)) }
+    ensures wrong { IfErr result (λ fault. fault ≡ EntryFault.Wrong → (said : _) → inside.IsSpelled said
+        → body.now ≡ entry.change_bytes said → ⊥) }
 {
     if body.len() == 0 {
         return Err(EntryFault::Wrong);

@@ -141,7 +141,8 @@ impl Model for Register {
 
     ghost view = { λ r. record { plan = r.plan; tables = r.tables.items } };
 
-    ghost invariant = { λ r. IsRegister (record { plan = r.plan; tables = r.tables.items }) × (tables_max ≤ vec_capacity r.tables) };
+    ghost invariant = { λ r. IsRegister (record { plan = r.plan; tables = r.tables.items })
+        × (tables_max ≤ vec_capacity r.tables) };
 }
 
 impl Register {
@@ -185,7 +186,10 @@ impl Register {
     /// Adds a table.
     pub(crate) fn add(&mut self, station: u8, number: TableNo, table: Table)
         requires { inside.CanAddHere self.old station number.0 table }
-        ensures { self.new ≡ record { plan = self.old.plan; tables = self.old.tables ++ opened.new_held station number.0 table ∷ [] } }
+        ensures { self.new ≡ record {
+          plan = self.old.plan;
+          tables = self.old.tables ++ opened.new_held station number.0 table ∷ [];
+        } }
     {
         self.tables.push_reserved(Held {
             station,
@@ -199,8 +203,11 @@ impl Register {
 
     /// The numbers up to `first` become gaps, and the next `count` are kept.
     pub(crate) fn advance(&mut self, id: TableId, advance: &Advance)
-        requires there { (held : _) × inside.IsGoingOnHere self.old id.0 held × inside.CanAdvanceHere held (inside.seen_advance advance.now) }
-        ensures { self.new ≡ record { plan = self.old.plan; tables = changed_at id.0 (opened.advanced (inside.seen_advance advance.now)) self.old.tables } }
+        requires there { inside.MayAdvance self.old id.0 (inside.seen_advance advance.now) }
+        ensures { self.new ≡ record {
+          plan = self.old.plan;
+          tables = changed_at id.0 (opened.advanced (inside.seen_advance advance.now)) self.old.tables;
+        } }
     {
         self.tables[usize::from(id.0)].advance(advance);
     }
@@ -243,8 +250,9 @@ impl Register {
 
     /// Whether an advance may follow.
     pub(crate) fn can_advance(&self, id: TableId, advance: &Advance) -> bool
-        ensures on { result ≡ true → (held : _) × inside.IsGoingOnHere self.now id.0 held × inside.CanAdvanceHere held (inside.seen_advance advance.now) }
-        ensures off { result ≡ false → (held : _) → inside.IsGoingOnHere self.now id.0 held → inside.CanAdvanceHere held (inside.seen_advance advance.now) → ⊥ }
+        ensures on { result ≡ true → inside.MayAdvance self.now id.0 (inside.seen_advance advance.now) }
+        ensures off { result ≡ false → (held : _) → inside.IsGoingOnHere self.now id.0 held
+            → inside.CanAdvanceHere held (inside.seen_advance advance.now) → ⊥ }
     {
         match self.tables.get(usize::from(id.0)) {
             None => false,
@@ -264,7 +272,8 @@ impl Register {
 
     /// Makes a change where it may follow, and answers whether it may.
     pub(crate) fn take(&mut self, change: Change) -> bool
-        ensures taken { result ≡ true → (said : _) → inside.Says change.entry said → inside.AllowsHere self.old said × (self.new ≡ opened.register_after self.old said) }
+        ensures taken { result ≡ true → (said : _) → inside.Says change.entry said
+            → inside.AllowsHere self.old said × (self.new ≡ opened.register_after self.old said) }
         ensures refused { result ≡ false → (said : _) → inside.Says change.entry said → inside.AllowsHere self.old said → ⊥ }
         ensures stays { result ≡ false → self.new ≡ self.old }
     {

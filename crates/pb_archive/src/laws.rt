@@ -36,7 +36,11 @@ pub fn changes_take_nothing_back()
 
 // Worked values: a plan of one station, as text and as an entry; an advance, a stop.
 fn plans_and_changes_are_spelled()
-    ensures { let plan : Plan = record { me = 4094; via = 10; stations = record { addr = 10; code = 7; name = codes "ab" } ∷ [] } in
+    ensures { let plan : Plan = record {
+      me = 4094;
+      via = 10;
+      stations = record { addr = 10; code = 7; name = codes "ab" } ∷ [];
+    } in
         let advance : Advance = record { form = 0; first = 0x01020304; count = 2; bytes = 0xAA ∷ 0xBB ∷ [] } in
         (plan_text plan ≡ codes "self 4094 via 10\nstation 10 7 ab\n")
         × (plan_bytes plan ≡ 0x50 ∷ 0x0F ∷ 0xFE ∷ 0 ∷ 10 ∷ 1 ∷ 0 ∷ 10 ∷ 0 ∷ 7 ∷ 0x61 ∷ 0x62 ∷ 0 ∷ [])
@@ -47,7 +51,11 @@ fn plans_and_changes_are_spelled()
 
 // Worked values: two contents of nine bytes, and two records of one byte with an interval of 10.6 seconds.
 fn contents_are_cut()
-    ensures { let intervals : Layout = record { record_len = 1; event = false; interval = record { sec = pos 10; nano = pos 600000000 } } in
+    ensures { let intervals : Layout = record {
+      record_len = 1;
+      event = false;
+      interval = record { sec = pos 10; nano = pos 600000000 };
+    } in
         let first = 0 ∷ 0 ∷ 0 ∷ 7 ∷ 0 ∷ 0 ∷ 0 ∷ 9 ∷ 0xAA ∷ [] in
         let second = 0 ∷ 0 ∷ 0 ∷ 0x11 ∷ 0x23 ∷ 0xC3 ∷ 0x46 ∷ 9 ∷ 0xBB ∷ [] in
         let both : List (List ℕ) = first ∷ second ∷ [] in
@@ -57,8 +65,19 @@ fn contents_are_cut()
 
 // Worked values: the only table of a plan with two stations, whose records 2 and 3 are kept, and then it is stopped.
 fn archives_are_made()
-    ensures { let plan : Plan = record { me = 4094; via = 10; stations = record { addr = 10; code = 0; name = codes "a" } ∷ record { addr = 11; code = 0; name = codes "b" } ∷ [] } in
-        let definition : Definition = record { name = codes "T"; size = 10; time_type = 14; into = record { sec = pos 0; nano = pos 0 }; interval = record { sec = pos 0; nano = pos 0 }; fields = [] } in
+    ensures { let plan : Plan = record {
+      me = 4094;
+      via = 10;
+      stations = record { addr = 10; code = 0; name = codes "a" } ∷ record { addr = 11; code = 0; name = codes "b" } ∷ [];
+    } in
+        let definition : Definition = record {
+          name = codes "T";
+          size = 10;
+          time_type = 14;
+          into = record { sec = pos 0; nano = pos 0 };
+          interval = record { sec = pos 0; nano = pos 0 };
+          fields = [];
+        } in
         let content = 0 ∷ 0 ∷ 0 ∷ 7 ∷ 0 ∷ 0 ∷ 0 ∷ 9 ∷ [] in
         let added = archive_after (created plan) (Added 1 5 definition) in
         let advanced = archive_after added (Advanced 0 (record { form = 0; first = 2; count = 2; bytes = content ++ content })) in

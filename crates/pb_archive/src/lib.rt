@@ -31,4 +31,6 @@ pub use rows::Rows;
 pub use table_view::{Stop, TableView};
 
 #[cfg(test)]
+mod row_tests;
+#[cfg(test)]
 mod tests;

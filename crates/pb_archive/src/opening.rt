@@ -64,8 +64,10 @@ fn read_next<D: Disk>(
     disk: &mut D,
 ) -> Result<bool, ArchiveFault>
     requires { ForSome (D.view disk.old).file (HasRead register.old entries.old journal.now.gate) }
-    ensures read { IfOk result (λ more. ForSome (D.view disk.old).file (ReadsNext register.new entries.new journal.now.gate more)) }
-    ensures moves { IfOk result (λ more. more ≡ true → (entries.old.place < entries.new.place) × (entries.new.place ≤ journal.now.gate)) }
+    ensures read { IfOk result (λ more. ForSome (D.view disk.old).file
+        (ReadsNext register.new entries.new journal.now.gate more)) }
+    ensures moves { IfOk result (λ more. more ≡ true
+        → (entries.old.place < entries.new.place) × (entries.new.place ≤ journal.now.gate)) }
     ensures refused { IfErr result (OpenRefuses (D.view disk.old).file) }
     ensures peeks { Peeks (D.view disk.old) (D.view disk.new) }
     ensures cause { HasDiskCause (D.view disk.old).faults (D.view disk.new).faults result }

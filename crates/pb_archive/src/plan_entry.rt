@@ -46,7 +46,8 @@ fn station_fields<'a>(fields: &mut Fields<'a>) -> Option<StationFields<'a>>
 // Adds the station that comes next.
 fn read_station(fields: &mut Fields, draft: &mut Draft) -> Result<(), EntryFault>
     requires { IsBytes fields.old.rest }
-    ensures read { OnOk result ((s : _) × ReadsStation fields.old s fields.new × (draft.new ≡ with_station draft.old s) × IsBegun draft.new) }
+    ensures read { OnOk result ((s : _) × ReadsStation fields.old s fields.new
+        × (draft.new ≡ with_station draft.old s) × IsBegun draft.new) }
     ensures wrong { IfErr result (λ fault. fault ≡ EntryFault.Wrong → (s : _) (rest : _)
         → fields.old.rest ≡ station_bytes s ++ rest → IsBegun (with_station draft.old s) → ⊥) }
 {
@@ -70,7 +71,8 @@ fn read_stations(fields: &mut Fields, draft: &mut Draft, count: u8) -> Result<()
     requires begun { IsBegun draft.old }
     requires first { draft.old.stations ≡ [] }
     ensures read { OnOk result (ReadsStations draft.old fields.old.rest count draft.new) }
-    ensures wrong { IfErr result (λ fault. fault ≡ EntryFault.Wrong → (q : _) → IsBegun q → q.me ≡ draft.old.me → q.via ≡ draft.old.via
+    ensures wrong { IfErr result (λ fault. fault ≡ EntryFault.Wrong → (q : _) → IsBegun q
+        → q.me ≡ draft.old.me → q.via ≡ draft.old.via
         → length q.stations ≡ count → fields.old.rest ≡ flat_map station_bytes q.stations → ⊥) }
 {
     for _ in 0..count {

@@ -73,7 +73,8 @@ pub(crate) struct Numbered<'a> {
 
 // What comes after a prefix; none where the text has another.
 fn after<'a>(text: &'a [u8], prefix: &[u8]) -> Option<&'a [u8]>
-    ensures { MatchOption result ((rest : List ℕ) → text.entry.now ≡ prefix.now ++ rest → ⊥) (λ r. text.entry.now ≡ prefix.now ++ r.now) }
+    ensures { MatchOption result ((rest : List ℕ) → text.entry.now ≡ prefix.now ++ rest → ⊥)
+        (λ r. text.entry.now ≡ prefix.now ++ r.now) }
 {
     text.strip_prefix(prefix)
 }
@@ -133,7 +134,8 @@ pub(crate) struct First<'a> {
 
 // The two addresses of the first line; none where no such line comes first.
 fn read_first(text: &[u8]) -> Option<First>
-    ensures { MatchOption result ((me via : ℕ) (rest : List ℕ) → IsAddress me → IsAddress via → text.now ≡ first_of me via rest → ⊥)
+    ensures { MatchOption result ((me via : ℕ) (rest : List ℕ) → IsAddress me → IsAddress via
+        → text.now ≡ first_of me via rest → ⊥)
         (λ f. IsAddress f.me × IsAddress f.via × (text.now ≡ first_of f.me f.via f.rest.now)) }
 {
     let text = match after(text, b"self ") {

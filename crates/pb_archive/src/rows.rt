@@ -75,7 +75,8 @@ impl<'a> Rows<'a> {
         requires rows { ForSome (D.view disk.old).file (HasRows self.old) }
         ensures rows { StillAwaits self.old self.new (D.view disk.old).file }
         ensures same { SameRows self.old self.new }
-        ensures moves { OnOk result ((self.old.entries.place < self.new.entries.place) × (self.new.entries.place ≤ self.new.gate)) }
+        ensures moves { OnOk result ((self.old.entries.place < self.new.entries.place)
+            × (self.new.entries.place ≤ self.new.gate)) }
         ensures refused { IfErr result (RowRefuses (D.view disk.old).file) }
         ensures row { self.old.row ≡ None → self.new.row ≡ None }
         ensures peeks { Peeks (D.view disk.old) (D.view disk.new) }
@@ -209,7 +210,8 @@ impl Archive {
             → BeginsAt r id.0 from.0 to.0 file) }
         ensures range { IfOk result (λ r. (r.next ≡ from.0) × (r.to ≡ to.0) × (r.row ≡ None)) }
         ensures held { IfOk result (λ r. r.entries.chunk.held ≡ window_len) }
-        ensures layout { IfOk result (λ r. (held : _) → slice_get self.now.tables id.0 ≡ Some held → held.table.layout ≡ Ok r.layout) }
+        ensures layout { IfOk result (λ r. (held : _) → slice_get self.now.tables id.0 ≡ Some held
+            → held.table.layout ≡ Ok r.layout) }
         ensures usable { OnOk result (NeedsOpening self.now false) }
         ensures refused { IfErr result (ReadRefuses self.now) }
     {

@@ -72,12 +72,12 @@ fn other_texts_are_refused_at_their_lines(rt: HostRuntime) -> Result<(), Fail> {
 }
 
 // A plan of one station: own address 4094, through node 10, and station 10 with code 0 and name a.
-const PLAN: &[u8] = b"\x50\x0F\xFE\x00\x0A\x01\x00\x0A\x00\x00a\x00";
+pub(crate) const PLAN: &[u8] = b"\x50\x0F\xFE\x00\x0A\x01\x00\x0A\x00\x00a\x00";
 // Table 1 of station 0: an event table T of 10 records, with one value V of two bytes.
-const TABLE: &[u8] =
+pub(crate) const TABLE: &[u8] =
     b"\x54\x00\x00\x01T\x00\x00\x00\x00\x0A\x0E\x00\x00\x00\x00\x00\x00\x00\x00\x00\x00\x00\x00\x00\x00\x00\x00\x07V\x00\x00\x00\x00\x00\x00\x00\x00\x01\x00\x00\x00\x01\x00\x00\x00\x00\x00";
 // Table 2 of station 0: the same with an interval of 10 seconds.
-const TIMED: &[u8] =
+pub(crate) const TIMED: &[u8] =
     b"\x54\x00\x00\x02T\x00\x00\x00\x00\x0A\x0E\x00\x00\x00\x00\x00\x00\x00\x00\x00\x00\x00\x0A\x00\x00\x00\x00\x07V\x00\x00\x00\x00\x00\x00\x00\x00\x01\x00\x00\x00\x01\x00\x00\x00\x00\x00";
 // Gaps up to 2, and a content in record 2 of table 0.
 const KEPT: &[u8] =
@@ -86,7 +86,7 @@ const KEPT: &[u8] =
 const STOP: &[u8] = b"\x53\x00\x00\x01\x8A\x5F";
 
 // A journal with these bodies, and the place of the last one's gate.
-fn file_of(alloc: Global, bodies: &[&[u8]]) -> Result<(Vec<u8>, u64), AllocError> {
+pub(crate) fn file_of(alloc: Global, bodies: &[&[u8]]) -> Result<(Vec<u8>, u64), AllocError> {
     let mut file = Vec::new(alloc);
     file.extend_from_slice(b"\xA5PBKARC1")?;
     let mut gate = 8;

@@ -7,10 +7,10 @@ ghost use Rattle.pb_journal.specs.Entries.{max_body_len};
 ghost use Rattle.pb_tdf.specs.Definition.{IsTable};
 ghost use Rattle.pb_tdf.specs.View.{view_of};
 ghost use Rattle.pb_archive.specs.Entry as entry;
-ghost use Rattle.pb_archive.specs.Entry.{Added, Advanced, tables_max};
+ghost use Rattle.pb_archive.specs.Entry.{Added, tables_max};
 ghost use Rattle.pb_archive.specs.Held.{Writes, Wrote};
 ghost use Rattle.pb_archive.specs.Inside as inside;
-ghost use Rattle.pb_archive.specs.Opened.{CanAdvanceHere, GoesOn, HasLayout, IsOpen, IsOther, Stands, register_of, register_after, with_table, advance_of, stop_of};
+ghost use Rattle.pb_archive.specs.Opened.{CanAdvanceHere, GoesOn, HasLayout, IsOpen, IsOther, Stands, register_of, register_after, with_table, advance_of, an_advance, stop_of};
 ghost use Rattle.pb_archive.specs.Refusals.{AddRefuses, ChangeRefuses, HasDiskCause, NeedsOpening};
 
 use crate::archive::Archive;
@@ -37,7 +37,8 @@ fn write<D: Disk>(
     requires settled { IsSettled (D.view disk.old) }
     ensures writes { (r : _) (change : _) → inside.CanWrite r change journal.old.gate (head.now ++ rest.now) (D.view disk.old)
         → Writes change (D.view disk.old) (D.view disk.new) }
-    ensures wrote { OnOk result ((r : _) (change : _) → inside.CanWrite r change journal.old.gate (head.now ++ rest.now) (D.view disk.old)
+    ensures wrote { OnOk result ((r : _) (change : _)
+        → inside.CanWrite r change journal.old.gate (head.now ++ rest.now) (D.view disk.old)
         → Wrote change (D.view disk.old) (D.view disk.new)
         × ForSome (D.view disk.new).file (Stands (register_after r change) journal.new.gate)) }
     ensures refused { IfErr result (λ fault. fault ≡ ArchiveFault.DiskFault) }
@@ -60,8 +61,10 @@ fn table_head(station: u8, number: TableNo) -> [u8; 4]
 
 // What comes before the records in an advance's entry.
 fn advance_head(id: TableId, advance: &Advance) -> [u8; 10]
-    ensures ranges { (id.0 < 2 ^ 16) × (advance.now.form < 2 ^ 8) × (advance.now.first.0 < 2 ^ 32) × (advance.now.count < 2 ^ 16) }
-    ensures head { result ≡ entry.advance_kind ∷ (entry.half id.0 ++ advance.now.form ∷ (entry.word advance.now.first.0 ++ entry.half advance.now.count)) }
+    ensures ranges { (id.0 < 2 ^ 16) × (advance.now.form < 2 ^ 8)
+        × (advance.now.first.0 < 2 ^ 32) × (advance.now.count < 2 ^ 16) }
+    ensures head { result ≡ entry.advance_kind ∷ (entry.half id.0 ++ advance.now.form
+        ∷ (entry.word advance.now.first.0 ++ entry.half advance.now.count)) }
 {
     let [a, b] = id.0.to_be_bytes();
     let [c, d, e, f] = advance.first.0.to_be_bytes();
@@ -127,8 +130,10 @@ impl Archive {
         requires layout { HasLayout table }
         requires opened { NeedsOpening self.old false → IsOpen self.old (D.view disk.old) }
         ensures place { IfOk result (λ id. id.0 ≡ length self.old.tables) }
-        ensures writes { (d : _) → IsTable d → table ≡ view_of d → Writes (Added station number.0 d) (D.view disk.old) (D.view disk.new) }
-        ensures wrote { OnOk result ((d : _) → IsTable d → table ≡ view_of d → Wrote (Added station number.0 d) (D.view disk.old) (D.view disk.new)) }
+        ensures writes { (d : _) → IsTable d → table ≡ view_of d
+            → Writes (Added station number.0 d) (D.view disk.old) (D.view disk.new) }
+        ensures wrote { OnOk result ((d : _) → IsTable d → table ≡ view_of d
+            → Wrote (Added station number.0 d) (D.view disk.old) (D.view disk.new)) }
         ensures opened { OnOk result (IsOpen self.new (D.view disk.new)) }
         ensures allowed { OnOk result (NeedsOpening self.old false × (length self.old.tables < tables_max)) }
         ensures usable { OnOk result (NeedsOpening self.new false) }
@@ -172,14 +177,16 @@ impl Archive {
         bytes: &[u8],
     ) -> Result<(), ArchiveFault>
         requires there { id.0 < length self.old.tables }
-        requires follows { (held : _) → slice_get self.old.tables id.0 ≡ Some held → CanAdvanceHere held (advance_of form first.0 count bytes.now) }
+        requires follows { (held : _) → slice_get self.old.tables id.0 ≡ Some held
+            → CanAdvanceHere held (advance_of form first.0 count bytes.now) }
         requires opened { NeedsOpening self.old false → IsOpen self.old (D.view disk.old) }
-        ensures writes { Writes (Advanced id.0 (advance_of form first.0 count bytes.now)) (D.view disk.old) (D.view disk.new) }
-        ensures wrote { OnOk result (Wrote (Advanced id.0 (advance_of form first.0 count bytes.now)) (D.view disk.old) (D.view disk.new)) }
+        ensures writes { Writes (an_advance id.0 form first.0 count bytes.now) (D.view disk.old) (D.view disk.new) }
+        ensures wrote { OnOk result (Wrote (an_advance id.0 form first.0 count bytes.now) (D.view disk.old) (D.view disk.new)) }
         ensures opened { OnOk result (IsOpen self.new (D.view disk.new)) }
         ensures allowed { OnOk result (NeedsOpening self.old false × GoesOn (register_of self.old) id.0) }
         ensures usable { OnOk result (NeedsOpening self.new false) }
-        ensures changed { OnOk result (register_of self.new ≡ register_after (register_of self.old) (Advanced id.0 (advance_of form first.0 count bytes.now))) }
+        ensures changed { OnOk result (register_of self.new
+            ≡ register_after (register_of self.old) (an_advance id.0 form first.0 count bytes.now)) }
         ensures stays { OnErr result (register_of self.new ≡ register_of self.old) }
         ensures refused { IfErr result (ChangeRefuses self.old id.0) }
         ensures must_reopen { IfErr result (λ fault. fault ≡ ArchiveFault.DiskFault → NeedsOpening self.new true) }

@@ -75,7 +75,8 @@ impl Columns {
 
     // Adds the columns of several values of one name.
     fn push_numbered(&mut self, alloc: Global, name: &[u8], count: u32) -> Result<(), AllocError>
-        ensures { OnOk result ((names : _) → HasNames self.old names → HasNames self.new (names ++ numbered_names name.now count)) }
+        ensures { OnOk result ((names : _) → HasNames self.old names
+            → HasNames self.new (names ++ numbered_names name.now count)) }
     {
         for number in 0..count {
             let text = numbered(alloc, name, number + 1)?;

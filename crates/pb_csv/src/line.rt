@@ -28,7 +28,8 @@ fn push_value(
     value: &Value,
 ) -> Result<(), AllocError>
     requires { IsValue value.now.kind value.now.bytes.now }
-    ensures { OnOk result (row.new.items ≡ row.old.items ++ comma ∷ field_text default_writer (value_text value.now.kind value.now.bytes.now)) }
+    ensures { OnOk result (row.new.items ≡ row.old.items
+        ++ comma ∷ field_text default_writer (value_text value.now.kind value.now.bytes.now)) }
 {
     let Some(room) = value.bytes.len().checked_mul(ESCAPED_MAX) else {
         return Err(AllocError);
@@ -52,7 +53,8 @@ fn push_values(
     bytes: &[u8],
 ) -> Result<(), AllocError>
     requires { IsRecordOf table.now bytes.now }
-    ensures { OnOk result (row.new.items ≡ row.old.items ++ fields_text default_writer (map value_field (values_of table.now.fields bytes.now))) }
+    ensures { OnOk result (row.new.items ≡ row.old.items
+        ++ fields_text default_writer (map value_field (values_of table.now.fields bytes.now))) }
 {
     let mut left = values(table, bytes);
     while let Some(value) = left.next() {
@@ -81,7 +83,8 @@ fn is_spelled(sec: i32, nano: i32)
 
 /// The row of names in place of what `row` holds.
 pub(crate) fn header(alloc: Global, row: &mut Vec<u8>, columns: &Columns) -> Result<(), AllocError>
-    ensures { OnOk result ((fields : _) → HasNames columns.now (value_names fields) → row.new.items ≡ csv_row (header_fields fields)) }
+    ensures { OnOk result ((fields : _) → HasNames columns.now (value_names fields)
+        → row.new.items ≡ csv_row (header_fields fields)) }
 {
     row.clear();
     push_first(alloc, row, b"record")?;
@@ -100,7 +103,8 @@ pub(crate) fn kept(
     view: &RecordView,
 ) -> Result<(), AllocError>
     requires { IsRecordOf table.now view.now.bytes.now }
-    ensures { OnOk result (row.new.items ≡ csv_row (row_fields table.now.fields (kept view.now.number.0 (content (seen_record view.now).stored)))) }
+    ensures { OnOk result (row.new.items ≡ csv_row (row_fields table.now.fields
+        (kept view.now.number.0 (content (seen_record view.now).stored)))) }
 {
     row.clear();
     push_first(
@@ -124,7 +128,8 @@ pub(crate) fn gap(
     to: RecNo,
 ) -> Result<(), AllocError>
     requires { from.0 < to.0 }
-    ensures { OnOk result ((fields : _) → HasNames columns.now (value_names fields) → row.new.items ≡ csv_row (row_fields fields (gap from.0 to.0))) }
+    ensures { OnOk result ((fields : _) → HasNames columns.now (value_names fields)
+        → row.new.items ≡ csv_row (row_fields fields (gap from.0 to.0))) }
 {
     scratch.clear();
     scratch.extend_from_slice(itoa::Buffer::new().format(from.0).as_bytes())?;
