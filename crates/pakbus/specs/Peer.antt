@@ -19,3 +19,9 @@ pub record IsPeer (word host : List ℕ) (port : ℕ) : Type 0 where
   pub host_is : IsHost text host
   pub some_host : 0 < length host
   pub not_listen : text ≢ codes "listen"
+
+-- the word is `listen:PORT`
+pub record IsListening (word : List ℕ) (port : ℕ) : Type 0 where
+  pub digits : List ℕ
+  pub form : word ≡ codes "listen:" ++ digits
+  pub port_is : IsPort digits port

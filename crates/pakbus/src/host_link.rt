@@ -125,9 +125,9 @@ fn connected_within<H: Net>(
     prepared(TcpStream::connect_timeout(host, address, share)?)
 }
 
-// Where a standard stream was closed, a new stream gets its number, and what is printed would go to the peer: such a
-// stream is moved above them.
-fn prepared<S: OpenStream + AsRawFd + Drop>(opened: S) -> io::Result<S> {
+/// A new stream with its timeouts. Where a standard stream was closed, a new one gets its number, and what is printed would
+/// go to the peer: such a stream is moved above them.
+pub(crate) fn prepared<S: OpenStream + AsRawFd + Drop>(opened: S) -> io::Result<S> {
     let stream = if opened.as_raw_fd() > 2 {
         opened
     } else {

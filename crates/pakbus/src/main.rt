@@ -6,6 +6,7 @@ ghost use Rattle.std.specs.Prelude.{◌≡◌, codes, map, get_or, string_bytes}
 mod fault_count;
 mod host_file;
 mod host_link;
+mod host_listener;
 mod host_sink;
 mod host_site;
 mod host_source;

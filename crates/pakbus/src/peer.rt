@@ -1,6 +1,6 @@
 //! The words that name a peer.
 ghost use Rattle.std.specs.Prelude.{◌≡◌, ℕ, List, ◌<◌, ◌^◌, length, MatchOption};
-ghost use Rattle.pakbus.specs.Peer.{IsHost, IsPeer, IsPort};
+ghost use Rattle.pakbus.specs.Peer.{IsHost, IsListening, IsPeer, IsPort};
 
 use pb_base::parse_decimal;
 
@@ -18,6 +18,16 @@ pub fn host_and_port(word: &str) -> Option<(&str, u16)>
     let host = host_of(text)?;
     let port = port_of(digits)?;
     Some((host, port))
+}
+
+/// The TCP port of a word `listen:PORT`; `None` where it has another form.
+pub fn listening_port(word: &str) -> Option<u16>
+    ensures { MatchOption result ((port : ℕ) → port < 2 ^ 16 → ¬ IsListening word.now port) (λ port. IsListening word.now port) }
+{
+    match word.strip_prefix("listen:") {
+        Some(digits) => port_of(digits),
+        None => None,
+    }
 }
 
 // The host that a text names, which isn't empty.

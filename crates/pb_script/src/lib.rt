@@ -11,8 +11,12 @@ mod record;
 mod script;
 mod table;
 mod words;
+mod worked;
 
 pub use fault::ScriptFault;
 pub use reading::SCRIPT_TEXT_MAX;
 pub use script::Script;
 pub use table::{Kind, ScriptTable, Shape};
+
+#[cfg(test)]
+mod tests;

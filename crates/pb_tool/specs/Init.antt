@@ -1,5 +1,5 @@
 -- What `init` does: the archive of the plan that the input is.
-use Rattle.std.specs.Prelude.{◌≡◌, ◌⊎◌, ⊤, ℕ, ◌≤◌, List, [], ◌∷◌, Option, Result, Ok, Err, codes, decimal}
+use Rattle.std.specs.Prelude.{◌≡◌, ◌⊎◌, ⊤, ℕ, ◌≤◌, List, [], Option, Result, Ok, Err}
 use Rattle.pb_archive.specs.Creation.{Inits, KeepsOrInits}
 use Rattle.pb_archive.specs.Plan.{Plan, PlanText, RefusedLine}
 use Rattle.pb_archive.specs.Refusals.{InitRefuses}
@@ -7,17 +7,14 @@ use Rattle.pb_archive.specs.declared.fault.ArchiveFault.TheVariants as archive
 use Rattle.pb_io.specs.Crash.{Changes}
 use Rattle.pb_io.specs.Faults.{Rose}
 use Rattle.pb_io.specs.Outside.{Outside}
-use Rattle.pb_io.specs.Page.{joined}
 use Rattle.pb_io.specs.Settled.{Leaves}
 use Rattle.pb_io.specs.Site.{SendsAtMost}
 use Rattle.pb_io.specs.View.{View, LeavesOnly}
 use Rattle.pb_tool.specs.Closing.{Closes}
-use Rattle.pb_tool.specs.Input.{ReadsWhole, InputRefuses}
+use Rattle.pb_tool.specs.Input.{ReadsWhole, InputRefuses, input_fault_text, input_status, line_text}
 use Rattle.pb_tool.specs.Refusal.{refusal_text, refusal_status}
-use Rattle.pb_tool.specs.ShowText.{read_fault_line}
 use Rattle.pb_tool.specs.declared.init.InitFault.{InitFault}
 use Rattle.pb_tool.specs.declared.init.InitFault.TheVariants.{Input, Line, Archive, Memory}
-use Rattle.pb_tool.specs.declared.input.InputFault.{InputFault}
 use Rattle.pb_tool.specs.declared.input.InputFault.TheVariants as input
 use Rattle.pb_tool.specs.declared.status.Status.{Status}
 use Rattle.pb_tool.specs.declared.status.Status.TheVariants as status
@@ -28,17 +25,8 @@ plan_text_max = 16384
 
 -- ---- what it prints
 
--- `pakbus: format at line N`
-unfoldable pub line_text : ℕ → List ℕ
-line_text n = joined (codes "pakbus: format at line " ∷ decimal n ∷ codes "\n" ∷ [])
-
-unfoldable pub input_fault_text : InputFault → List ℕ
-input_fault_text input.ReadFault = read_fault_line
-input_fault_text input.PastLimit = codes "pakbus: format at byte 16384\n"
-input_fault_text input.Memory = []
-
 unfoldable pub fault_text : InitFault → List ℕ
-fault_text (Input fault) = input_fault_text fault
+fault_text (Input fault) = input_fault_text plan_text_max fault
 fault_text (Line n) = line_text n
 fault_text (Archive fault) = refusal_text fault
 fault_text Memory = []
@@ -46,11 +34,6 @@ fault_text Memory = []
 unfoldable pub answer_text : Result Unit InitFault → List ℕ
 answer_text (Ok done) = []
 answer_text (Err fault) = fault_text fault
-
-abbrev pub input_status : InputFault → Status
-input_status input.ReadFault = status.ReadFault
-input_status input.PastLimit = status.Format
-input_status input.Memory = status.Memory
 
 abbrev pub fault_status : InitFault → Status
 fault_status (Input fault) = input_status fault

@@ -1,5 +1,8 @@
 -- An input that is read whole.
-use Rattle.std.specs.Prelude.{◌≡◌, ⊤, ℕ, ◌<◌, ◌≤◌, List, length, Option, Result, Ok, Err}
+use Rattle.std.specs.Prelude.{◌≡◌, ⊤, ℕ, ◌<◌, ◌≤◌, List, [], ◌∷◌, length, Option, Result, Ok, Err, codes, decimal}
+use Rattle.pb_io.specs.Page.{joined}
+use Rattle.pb_tool.specs.declared.status.Status.{Status}
+use Rattle.pb_tool.specs.declared.status.Status.TheVariants as status
 use Rattle.std.specs.Io.KnownBytes.{Consumes, IsAtEnd}
 use Rattle.pb_io.specs.Faults.{Rose}
 use Rattle.pb_tool.specs.declared.input.InputFault.{InputFault}
@@ -28,3 +31,23 @@ CountsReads (Ok x) before now = now ≡ before
 CountsReads (Err ReadFault) before now = (before ≤ now) × Rose before now
 CountsReads (Err PastLimit) before now = now ≡ before
 CountsReads (Err Memory) before now = now ≡ before
+
+-- ---- the closing lines
+
+-- `pakbus: format at line N`
+unfoldable pub line_text : ℕ → List ℕ
+line_text n = joined (codes "pakbus: format at line " ∷ decimal n ∷ codes "\n" ∷ [])
+
+-- `pakbus: format at byte N`, N being the most bytes that are allowed
+unfoldable pub byte_text : ℕ → List ℕ
+byte_text n = joined (codes "pakbus: format at byte " ∷ decimal n ∷ codes "\n" ∷ [])
+
+unfoldable pub input_fault_text : ℕ → InputFault → List ℕ
+input_fault_text limit ReadFault = codes "pakbus: read fault\n"
+input_fault_text limit PastLimit = byte_text limit
+input_fault_text limit Memory = []
+
+abbrev pub input_status : InputFault → Status
+input_status ReadFault = status.ReadFault
+input_status PastLimit = status.Format
+input_status Memory = status.Memory

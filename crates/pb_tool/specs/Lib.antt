@@ -11,6 +11,7 @@ pub mod Ping
 pub mod PingText
 pub mod Ran
 pub mod Refusal
+pub mod Serve
 pub mod ShowText
 pub mod Showed
 pub mod Showing

@@ -8,9 +8,11 @@ pub data Order : Type 0 where
   Init : Order
   Check : Order
   Ping : (me node : ℕ) → Order
+  Serve : (frames : ℕ) → Order
 
 abbrev pub order_of : Command → Order
 order_of command.Show = Show
 order_of command.Init = Init
 order_of command.Check = Check
 order_of (command.Ping me node) = Ping me node
+order_of (command.Serve goal) = Serve goal

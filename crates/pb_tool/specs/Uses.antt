@@ -9,8 +9,9 @@ use Rattle.pb_io.specs.View.{LeavesOnly}
 use Rattle.pb_journal.specs.Changes.{Keeps}
 use Rattle.pb_io.specs.declared.disk.Disk as disk
 use Rattle.pb_tool.specs.Init.{InitLeaves}
-use Rattle.pb_tool.specs.Order.{Order, Show, Init, Check, Ping}
+use Rattle.pb_tool.specs.Order.{Order, Show, Init, Check, Ping, Serve}
 use Rattle.pb_tool.specs.Ping.{Greets}
+use Rattle.pb_tool.specs.Serve.{ServeLeaves}
 use Rattle.pb_tool.specs.declared.status.Status.{Status}
 
 pub record Uses : Type 0 where
@@ -25,6 +26,7 @@ uses (Some Show) = record { input = true; disk = false; link = false }
 uses (Some Init) = record { input = true; disk = true; link = false }
 uses (Some Check) = record { input = false; disk = true; link = false }
 uses (Some (Ping me node)) = record { input = false; disk = false; link = true }
+uses (Some (Serve frames)) = record { input = true; disk = false; link = true }
 
 -- What the command doesn't use is as it was.
 pub record Leaves {S I : Type 0} (d : disk.Ghosts S) (u : Uses) (site_old : S) (input_old : I) (site_new : S)
@@ -43,3 +45,4 @@ MayLeave (Some Show) result before after = LeavesOnly before.site after.site (Se
 MayLeave (Some Init) result before after = InitLeaves before after
 MayLeave (Some Check) result before after = DiskLeaves Keeps before.site after.site
 MayLeave (Some (Ping me node)) result before after = LeavesOnly before.site after.site (Greets me node before.site)
+MayLeave (Some (Serve frames)) result before after = ServeLeaves before after

@@ -9,7 +9,7 @@ ghost use Rattle.pb_tool.specs.Words.{Said};
 
 use crate::closing::close;
 use crate::words::{self, Command};
-use crate::{Status, check, init, ping, show};
+use crate::{Status, check, init, ping, serve, show};
 use pb_io::{Sink, Site, Source};
 use std::alloc::Global;
 
@@ -17,7 +17,8 @@ use std::alloc::Global;
 /// `out`, the closing ones too. Words of no listed form do nothing but print their closing line.
 ///
 /// `show` reads `input` to its end, and `ping` greets a node over the link of `site`; neither takes memory. `init` makes an
-/// archive of the plan that `input` is, in the file of `site`, and `check` tells what the archive there holds.
+/// archive of the plan that `input` is, in the file of `site`, and `check` tells what the archive there holds. `serve`
+/// answers on the link of `site` as the station of the script that `input` is.
 pub fn run<S: Site, I: Source, O: Sink>(
     alloc: Global,
     words: &[String],
@@ -74,5 +75,6 @@ fn perform<S: Site, I: Source, O: Sink>(
         Command::Init => init::print(alloc, site, input, out),
         Command::Check => check::print(alloc, site, out),
         Command::Ping { me, node } => ping::print(me, node, site, out),
+        Command::Serve { goal } => serve::print(alloc, goal, site, input, out),
     }
 }

@@ -3,14 +3,14 @@ ghost use Rattle.std.specs.Prelude.{◌≡◌, ◌≢◌};
 ghost use Rattle.pb_io.specs.Outside.{outside};
 ghost use Rattle.pb_io.specs.Page.{Adds, printing};
 ghost use Rattle.pb_tool.specs.Causes.{Counts};
-ghost use Rattle.pb_tool.specs.Init.{Means, MayLeaveBy, CountsOf, line_text, input_fault_text, fault_text, answer_text, input_status, fault_status, answer_status, RanInit, InitLeaves};
+ghost use Rattle.pb_tool.specs.Init.{Means, MayLeaveBy, CountsOf, fault_text, answer_text, fault_status, answer_status, RanInit, InitLeaves};
 
 use crate::Status;
 use crate::closing::finish;
-use crate::input::{InputFault, read_whole};
+use crate::input::{InputFault, push_input_fault, push_line, read_whole, status_of_input};
 use crate::refusal::{push_refused, status_of_refusal};
 use pb_archive::{ArchiveFault, Plan, PlanFault};
-use pb_io::{Page, Part, Sink, Site, Source};
+use pb_io::{Page, Sink, Site, Source};
 use std::alloc::Global;
 
 /// The most bytes of a plan's text.
@@ -95,16 +95,6 @@ fn status_of_fault(fault: InitFault) -> Status
     }
 }
 
-fn status_of_input(fault: InputFault) -> Status
-    ensures { result ≡ input_status fault }
-{
-    match fault {
-        InputFault::ReadFault => Status::ReadFault,
-        InputFault::PastLimit => Status::Format,
-        InputFault::Memory => Status::Memory,
-    }
-}
-
 #[tactic(auto, unfolding(crate::specs::Init::answer_text))]
 fn push_answer<O: Sink>(page: &mut Page, answer: &Result<(), InitFault>, out: &mut O)
     ensures { Adds (answer_text answer.now) (printing O.Sink page.old out.old) (printing O.Sink page.new out.new) }
@@ -120,34 +110,9 @@ fn push_fault<O: Sink>(page: &mut Page, fault: InitFault, out: &mut O)
     ensures { Adds (fault_text fault) (printing O.Sink page.old out.old) (printing O.Sink page.new out.new) }
 {
     match fault {
-        InitFault::Input(fault) => push_input_fault(page, fault, out),
+        InitFault::Input(fault) => push_input_fault(page, fault, PLAN_TEXT_MAX, out),
         InitFault::Line(line) => push_line(page, line, out),
         InitFault::Archive(fault) => push_refused(page, fault, out),
         InitFault::Memory => {}
     }
-}
-
-#[tactic(auto, unfolding(crate::specs::Init::input_fault_text))]
-fn push_input_fault<O: Sink>(page: &mut Page, fault: InputFault, out: &mut O)
-    ensures { Adds (input_fault_text fault) (printing O.Sink page.old out.old) (printing O.Sink page.new out.new) }
-{
-    match fault {
-        InputFault::ReadFault => page.push(b"pakbus: read fault\n", out),
-        InputFault::PastLimit => page.push(b"pakbus: format at byte 16384\n", out),
-        InputFault::Memory => {}
-    }
-}
-
-#[tactic(auto, unfolding(crate::specs::Init::line_text))]
-fn push_line<O: Sink>(page: &mut Page, line: u32, out: &mut O)
-    ensures { Adds (line_text line) (printing O.Sink page.old out.old) (printing O.Sink page.new out.new) }
-{
-    page.put(
-        &[
-            Part::Text(b"pakbus: format at line "),
-            Part::Number(u64::from(line)),
-            Part::Text(b"\n"),
-        ],
-        out,
-    );
 }

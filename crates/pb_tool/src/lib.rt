@@ -8,6 +8,7 @@ mod init;
 mod input;
 mod ping;
 mod refusal;
+mod serve;
 mod show;
 mod status;
 mod text;
