@@ -1,8 +1,7 @@
 -- One fragment: its advances in their order, and what they keep.
-use Rattle.std.proofs.Common.{◌≡◌, ℕ, zero, suc, ◌+◌, ◌<◌, ◌≤◌, List, [], ◌∷◌, ◌++◌, length, Some, refl, sym, ◌∙◌, ap, subst, append-nil, arith}
+use Rattle.std.proofs.Common.{◌≡◌, ℕ, zero, suc, ◌<◌, ◌≤◌, List, [], ◌∷◌, ◌++◌, length, Some, sym, ◌∙◌, ap, subst, append-nil, arith}
 use Rattle.std.specs.Prelude.{slice_get}
 use Rattle.std.proofs.lemmas.Option.{same_Some, none-some}
-use Rattle.pb_base.specs.declared.layout.Layout.{Layout}
 use Rattle.pb_base.specs.Record.{content_len}
 use Rattle.pb_io.specs.View.{View, IsLawful}
 use Rattle.pb_bmp5.specs.CollectReply.{SeenFragment, seen_of}

@@ -1,18 +1,15 @@
 -- What one request keeps, and what was heard in answer to it.
-use Rattle.std.proofs.Common.{◌≡◌, ◌⊎◌, inl, inr, ℕ, ◌+◌, ◌≤◌, List, [], ◌∷◌, ◌++◌, length, drop, Some, All, refl, sym, ◌∙◌, ap, subst, arith}
+use Rattle.std.proofs.Common.{◌≡◌, inl, ℕ, ◌≤◌, List, ◌∷◌, ◌++◌, length, drop, All, refl, sym, ap, subst, arith}
 use Rattle.std.specs.List.{Contains}
 use Rattle.std.proofs.lemmas.List.Elements.{Contains-append_right, All-contains}
 use Rattle.pb_base.specs.World.{World, Sent, sent}
 use Rattle.pb_base.specs.Request.{Request}
-use Rattle.pb_frame.specs.Framing.{Verdict, Whole, verdicts}
-use Rattle.pb_frame.specs.Hearing.{Hearing}
+use Rattle.pb_frame.specs.Framing.{Whole, verdicts}
 use Rattle.pb_io.specs.View.{View, Link, IsLawful}
 use Rattle.pb_io.proofs.Moments.{LeavesOnly-weaker}
 use Rattle.pb_packet.specs.declared.headers.Header.{Header}
 use Rattle.pb_packet.specs.Packet.{full, packet_bytes}
 use Rattle.pb_trans.specs.declared.asked.Limits.{Limits}
-use Rattle.pb_archive.specs.Archive.{Archive}
-use Rattle.pb_archive.specs.Held.{HasArchive}
 use Rattle.pb_ask.specs.Asking.{Asks, Hears}
 use Rattle.pb_ask.specs.Events.{Resending, Passes}
 use Rattle.pb_ask.specs.Judging.{Holds}
@@ -23,8 +20,8 @@ use Rattle.pb_ask.specs.declared.question.Ended.TheVariants as ended
 use Rattle.pb_ask.specs.declared.question.Outcome.{Outcome}
 use Rattle.pb_ask.specs.declared.question.Outcome.TheVariants.{Answer, Undelivered, NoAnswer, Flooded}
 use Rattle.pb_truth.specs.Asked.{WasAsked, IsIn, Allows}
-use Rattle.pb_truth.specs.Honest.{WasHeard, delivered}
-use Rattle.pb_truth.specs.Pairs.{AreGood, AreGoodSince, AsksAllowed}
+use Rattle.pb_truth.specs.Honest.{delivered}
+use Rattle.pb_truth.specs.Pairs.{AsksAllowed}
 use Rattle.pb_truth.proofs.ViewLemmas.{good_asks}
 use Rattle.pb_collect.specs.Heard.{Listens, IsAllowedIn, HasHeard, HeardBy}
 use Rattle.pb_collect.specs.Kept.{GoesOnFrom, Keeps}

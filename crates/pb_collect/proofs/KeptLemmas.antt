@@ -1,5 +1,5 @@
 -- How what calls keep goes on from call to call.
-use Rattle.std.proofs.Common.{◌≡◌, ◌⊎◌, inl, inr, ⊎_elim, ℕ, zero, suc, Bool, true, false, List, [], ◌∷◌, ◌++◌, length, Some, refl, sym, ◌∙◌, ap, subst, append_assoc, append-nil}
+use Rattle.std.proofs.Common.{◌≡◌, inl, inr, ℕ, zero, suc, Bool, true, false, List, [], ◌∷◌, ◌++◌, length, Some, refl, sym, ◌∙◌, ap, subst, append_assoc, append-nil}
 use Rattle.std.specs.Prelude.{Option, slice_get, ◌==◌, if◌then◌else◌}
 use Rattle.std.specs.List.{Contains}
 use Rattle.std.proofs.lemmas.Option.{same_Some}
@@ -14,19 +14,18 @@ use Rattle.pb_io.specs.Settled.{LeftBy}
 use Rattle.pb_io.specs.View.{View, Link, IsLawful, LeavesOnly}
 use Rattle.pb_io.proofs.Moments.{started, LeavesOnly-trans, LeavesOnly-weaker}
 use Rattle.pb_journal.proofs.LawLemmas.{one_list}
-use Rattle.pb_archive.specs.Archive.{Table, Archive, Extends, ExtendsTable, told_definition, record_layout, grown}
-use Rattle.pb_archive.specs.Entry.{Change, Added, Advanced, Stopped, IsAllowed, IsArchive, archive_after}
-use Rattle.pb_archive.specs.Held.{HasArchive, SameArchive, Makes, KeepsOrMakes, Writes}
+use Rattle.pb_archive.specs.Archive.{Table, Archive, Extends, told_definition, record_layout, grown}
+use Rattle.pb_archive.specs.Entry.{Change, Added, Advanced, Stopped, IsArchive, archive_after}
+use Rattle.pb_archive.specs.Held.{HasArchive, KeepsOrMakes, Writes}
 use Rattle.pb_archive.proofs.HeldLemmas.{length-changed_at}
 use Rattle.pb_archive.proofs.LeadsLemmas.{one_archive}
 use Rattle.pb_archive.proofs.WritingLemmas.{Extends-refl, Extends-trans, Extends-after}
 use Rattle.pb_truth.specs.Honest.{Honest}
-use Rattle.pb_truth.specs.Image.{Good}
 use Rattle.pb_truth.specs.Learning.{Known, without_partial, SoundKnown, taken, learned}
-use Rattle.pb_truth.specs.Pairs.{AreGood, AreGoodSince, AsksAllowed, StaysTrueIn}
+use Rattle.pb_truth.specs.Pairs.{AreGood, StaysTrueIn}
 use Rattle.pb_truth.proofs.GrowthLemmas.{honest_prefix, known_later}
-use Rattle.pb_truth.proofs.ViewLemmas.{good_start, good_then, good_asks, good_writes}
-use Rattle.pb_collect.specs.Kept.{Collects, StaysOrCollects, GoesOnFrom, Grows, HonestFrom, KeepsWhere, Keeps, KnowsTrue}
+use Rattle.pb_truth.proofs.ViewLemmas.{good_start, good_then, good_writes}
+use Rattle.pb_collect.specs.Kept.{Collects, StaysOrCollects, GoesOnFrom, Grows, HonestFrom, KeepsWhere, Keeps, KeepsHonest, KnowsTrue}
 
 -- ---- one archive in a file
 
@@ -180,6 +179,34 @@ keeps_trans a b c lawful p q = record {
   good = λ good honest.
       let first = p.good good (honest_first a b c q.grows honest) in
       good_then a b c first (q.good first.here (honest_then a b c lawful q.grows p.leaves honest));
+}
+
+-- ---- runs of calls in an honest world
+
+pub honest_weaker : (P : Type 0) (a b : View) → KeepsHonest P a b → (AreGood a → HonestFrom a b → P) → Keeps a b
+honest_weaker P a b q so = record { grows = q.grows; leaves = q.leaves; good = λ good honest. q.good (so good honest) good honest }
+
+pub honest_keeps : (P : Type 0) (a b : View) → Keeps a b → KeepsHonest P a b
+honest_keeps P a b q = record { grows = q.grows; leaves = q.leaves; good = λ p good honest. q.good good honest }
+
+pub honest_where : (P Q : Type 0) (a b c : View) → IsLawful b → KeepsHonest P a b → (P → AreGood a → AreGood b → HonestFrom a b → Q) → KeepsWhere Q b c → KeepsHonest P a c
+honest_where P Q a b c lawful p so q = record {
+  grows = grows_trans a.link.world b.link.world c.link.world p.grows q.grows;
+  leaves = leaves_trans a b c lawful p.leaves q.leaves;
+  good = λ is good honest.
+      let honest_b = honest_first a b c q.grows honest in
+      let first = p.good is good honest_b in
+      good_then a b c first (q.good (so is good first.here honest_b) first.here);
+}
+
+pub honest_then_honest : (P Q : Type 0) (a b c : View) → IsLawful b → KeepsHonest P a b → (P → AreGood a → AreGood b → HonestFrom a b → Q) → KeepsHonest Q b c → KeepsHonest P a c
+honest_then_honest P Q a b c lawful p so q = record {
+  grows = grows_trans a.link.world b.link.world c.link.world p.grows q.grows;
+  leaves = leaves_trans a b c lawful p.leaves q.leaves;
+  good = λ is good honest.
+      let honest_b = honest_first a b c q.grows honest in
+      let first = p.good is good honest_b in
+      good_then a b c first (q.good (so is good first.here honest_b) first.here (honest_then a b c lawful q.grows p.leaves honest));
 }
 
 -- ---- a writing call

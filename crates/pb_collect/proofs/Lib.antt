@@ -1,7 +1,11 @@
+pub mod AnswerLemmas
+pub mod ExchangeLemmas
 pub mod FragmentLemmas
 pub mod HeardLemmas
 pub mod KeptLemmas
 pub mod QuestionLemmas
+pub mod RequestLemmas
+pub mod RoundLemmas
 pub mod TakeLemmas
 pub mod TakingLemmas
 pub mod ProgressLemmas

@@ -1,17 +1,16 @@
 -- The frame of a collect command, from what each writer wrote.
-use Rattle.std.proofs.Common.{◌≡◌, ◌≢◌, inr, ℕ, ◌+◌, ◌<◌, ◌≤◌, List, [], ◌++◌, Result, Ok, Err, IfOk, length, take, drop, refl, sym, ap, subst, ◌∙◌, arith, rules}
+use Rattle.std.proofs.Common.{◌≡◌, inr, ℕ, ◌≤◌, List, [], ◌++◌, Result, Ok, Err, IfOk, length, take, drop, refl, sym, ap, subst, ◌∙◌, arith, rules}
 use Rattle.std.specs.Prelude.{OnErr, IsOk}
 use Rattle.std.proofs.lemmas.List.{take_at}
 use Rattle.pb_base.specs.declared.refusal.Full.{Full as NoRoom}
 use Rattle.pb_base.specs.Put.{IsWritten, DoesNotFit}
-use Rattle.pb_base.specs.Request.{Request}
 use Rattle.pb_frame.specs.Framing.{frame, IsContentSize}
 use Rattle.pb_packet.specs.Packet.{full, packet_bytes, IsAddress, PacketBytes}
 use Rattle.pb_packet.specs.declared.headers.Header.{Header}
 use Rattle.pb_bmp5.specs.declared.message.Mode.{Mode}
 use Rattle.pb_bmp5.specs.declared.message.Mode.TheVariants.{All, From, Newest, Range, Times, Part}
-use Rattle.pb_bmp5.specs.Message.{Message, Collect, CollectKeys, Valid, message_bytes}
-use Rattle.pb_collect.specs.Question.{command_header, command_keys, command_message, command_content, command_frame}
+use Rattle.pb_bmp5.specs.Message.{Collect, CollectKeys, Valid, message_bytes}
+use Rattle.pb_collect.specs.Question.{command_header, command_message, command_content, command_frame}
 use Rattle.pb_collect.specs.declared.question.CollectCommand.{CollectCommand}
 
 abbrev plain_keys : ℕ → Mode → ℕ → ℕ → CollectKeys

@@ -1,6 +1,6 @@
 -- What is appended for a fragment, and what it makes of the table in memory and in each file.
-use Rattle.std.proofs.Common.{◌≡◌, ◌⊎◌, inl, inr, ℕ, zero, suc, ◌+◌, ◌*◌, ◌<◌, ◌≤◌, Bool, true, false, List, [], ◌∷◌, ◌++◌, length, map, Some, None, Ok, refl, sym, ◌∙◌, ap, subst, append_assoc, arith, rules}
-use Rattle.std.specs.Prelude.{Option, slice_get, nat_lt, ◌==◌, not, if◌then◌else◌}
+use Rattle.std.proofs.Common.{◌≡◌, inl, inr, ℕ, zero, suc, ◌+◌, ◌*◌, ◌<◌, ◌≤◌, Bool, true, false, List, [], ◌∷◌, ◌++◌, length, map, Some, None, Ok, refl, sym, ◌∙◌, ap, subst, append_assoc, arith}
+use Rattle.std.specs.Prelude.{slice_get, nat_lt, ◌==◌, if◌then◌else◌}
 use Rattle.std.proofs.lemmas.Bool.{eqb-true, ltb-true, ltb-false}
 use Rattle.std.proofs.lemmas.Option.{same_Some, none-some}
 use Rattle.pb_base.specs.declared.layout.Layout.{Layout}
@@ -18,23 +18,21 @@ use Rattle.pb_bmp5.specs.CollectReply.{SeenFragment, whole, part, seen_of}
 use Rattle.pb_bmp5.specs.declared.fragment.Fragment.{Fragment}
 use Rattle.pb_bmp5.specs.declared.fragment.Fragment.TheVariants.{Whole, Part}
 use Rattle.pb_record.specs.Cut.{IsRun}
-use Rattle.pb_archive.specs.Archive.{Table, Archive, front, record_layout, changed_at, grown}
-use Rattle.pb_archive.specs.Entry.{Advance, Change, Advanced, HasForm, contents, archive_after, records_max, advance_bytes_max}
+use Rattle.pb_archive.specs.Archive.{Table, Archive, record_layout, changed_at, grown}
+use Rattle.pb_archive.specs.Entry.{Advance, Advanced, HasForm, contents, archive_after, records_max, advance_bytes_max}
 use Rattle.pb_archive.specs.Held.{HasArchive, Makes, Writes}
 use Rattle.pb_archive.specs.Opened.{Register, OpenArchive, IsOpen, register_of, held_of, CanAdvanceHere, advanced, register_after}
 use Rattle.pb_archive.proofs.RegisterLemmas.{at_before, has_layout}
 use Rattle.pb_journal.proofs.EntryLemmas.{rests_entries}
 use Rattle.pb_archive.specs.Truth.{SoundTable}
 use Rattle.pb_archive.specs.declared.held.Held.{Held}
-use Rattle.pb_archive.specs.declared.table_view.Stop.{Stop}
 use Rattle.pb_truth.specs.Keeping.{run_advance, gap_advance, content_advance, table_after, advances, CanBeKept}
 use Rattle.pb_truth.specs.Learning.{Known, without_partial, SoundKnown, taken, learned}
-use Rattle.pb_truth.specs.Pairs.{StaysTrueIn}
 use Rattle.pb_truth.proofs.KeepingLemmas.{after_further, fragment_kept, first_true}
 use Rattle.pb_collect.specs.Kept.{KeepsWhere, KnowsTrue}
-use Rattle.pb_collect.specs.Progress.{Progress, IsAt, partial_bytes, IsNextPart, IsNextRun, CanTake, after, advance_in, advances_in}
-use Rattle.pb_collect.specs.Inside.{effects_of, gap_before}
-use Rattle.pb_collect.specs.Taking.{IsAsFar, IsReady, registers_after, held_after, CanFollow, bytes_in, IsBrief, AdvancesTrue, CameOf, AllCameOf}
+use Rattle.pb_collect.specs.Progress.{Progress, IsAt, partial_bytes, IsNextRun, CanTake, after, advance_in, advances_in}
+use Rattle.pb_collect.specs.Inside.{effects_of}
+use Rattle.pb_collect.specs.Taking.{IsAsFar, IsReady, registers_after, held_after, CanFollow, IsBrief, AdvancesTrue, AllCameOf}
 use Rattle.pb_collect.specs.declared.effect.Effect.TheVariants.{Gap, Content}
 use Rattle.pb_collect.proofs.KeptLemmas.{same_archive, keeps_written, taken_key}
 use Rattle.pb_collect.proofs.ProgressLemmas.{known_taken}

@@ -1,5 +1,5 @@
 -- What was heard in answer to a collect command.
-use Rattle.std.specs.Prelude.{◌≡◌, ⊤, ℕ, ◌≤◌, List, length, drop, slice_get, Some}
+use Rattle.std.specs.Prelude.{◌≡◌, ⊤, ℕ, ◌≤◌, List, length, drop, Some}
 use Rattle.pb_base.specs.World.{World}
 use Rattle.pb_frame.specs.Hearing.{HoldsContent, StandsFor}
 use Rattle.pb_io.specs.View.{View, Link}

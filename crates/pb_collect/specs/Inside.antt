@@ -1,5 +1,5 @@
 -- What is always true of the fields of a `Progress`, and how its steps go; no promise cites this.
-use Rattle.std.specs.Prelude.{◌≡◌, ⊤, ℕ, zero, suc, ◌^◌, ◌<◌, ◌≤◌, true, ◌==◌, nat_lt, List, [], ◌∷◌, ◌++◌, length, Option, None, Some, if◌then◌else◌}
+use Rattle.std.specs.Prelude.{◌≡◌, ⊤, ℕ, zero, suc, ◌<◌, ◌≤◌, true, ◌==◌, nat_lt, List, [], ◌∷◌, ◌++◌, length, Option, None, Some, if◌then◌else◌}
 use Rattle.std.specs.Borrow.{Bor}
 use Rattle.pb_base.specs.declared.numbers.RecNo.{RecNo}
 use Rattle.pb_base.specs.Record.{content_len}
@@ -10,7 +10,7 @@ use Rattle.pb_collect.specs.declared.effect.Effect.{Effect}
 use Rattle.pb_collect.specs.declared.effect.Effect.TheVariants.{Gap, Run, Content}
 use Rattle.pb_collect.specs.declared.effect.Effects.{Effects}
 use Rattle.pb_collect.specs.declared.progress.Progress.TheInside.{Inside}
-use Rattle.pb_collect.specs.Progress.{Progress, partial_bytes}
+use Rattle.pb_collect.specs.Progress.{Progress, content_max, partial_bytes}
 
 -- ---- fields
 
@@ -23,7 +23,6 @@ progress_of p = record {
   joined = p.partial.joined.bytes;
   had = p.had;
   asked = p.asked;
-  room = p.partial.room;
 }
 
 -- A partial record is the one at the front; some of its bytes are at hand, and some are missing.
@@ -34,8 +33,8 @@ pub record IsPartial (p : Inside) : Type 0 where
   pub missing : length p.partial.joined.bytes < content_len p.layout
 
 pub record IsProgress (p : Inside) : Type 0 where
-  pub fits : content_len p.layout ≤ p.partial.room
-  pub word : p.partial.room < 2 ^ 32
+  pub fits : content_len p.layout ≤ content_max
+  pub room : p.partial.room ≡ content_max
   pub partial : p.is_partial ≡ true → IsPartial p
 
 -- ---- steps

@@ -1,5 +1,5 @@
 -- What a run of calls keeps: whatever a crash leaves, each archive goes on, and stays true where the world is honest.
-use Rattle.std.specs.Prelude.{◌≡◌, ◌⊎◌, ℕ, List, [], ◌∷◌, ◌++◌, length, slice_get, Option, Some}
+use Rattle.std.specs.Prelude.{◌≡◌, ◌⊎◌, ℕ, List, ◌++◌, length, slice_get, Option, Some}
 use Rattle.pb_base.specs.World.{World}
 use Rattle.pb_base.specs.History.{history}
 use Rattle.pb_bmp5.specs.CollectReply.{SeenFragment}
@@ -7,7 +7,7 @@ use Rattle.pb_io.specs.View.{View, LeavesOnly}
 use Rattle.pb_archive.specs.Archive.{Table, Archive, Extends, record_layout}
 use Rattle.pb_archive.specs.Held.{HasArchive}
 use Rattle.pb_truth.specs.Honest.{Honest}
-use Rattle.pb_truth.specs.Learning.{Known, SoundKnown, learned}
+use Rattle.pb_truth.specs.Learning.{SoundKnown, learned}
 use Rattle.pb_truth.specs.Pairs.{AreGood, AreGoodSince}
 
 -- ---- archives go on
@@ -60,6 +60,12 @@ pub record Keeps (old new : View) : Type 0 where
   pub grows : Grows old.link.world new.link.world
   pub leaves : LeavesOnly old new (GoesOnFrom old)
   pub good : AreGood old → HonestFrom old new → AreGoodSince old new
+
+-- The same, where P is so.
+pub record KeepsHonest (P : Type 0) (old new : View) : Type 0 where
+  pub grows : Grows old.link.world new.link.world
+  pub leaves : LeavesOnly old new (GoesOnFrom old)
+  pub good : P → AreGood old → HonestFrom old new → AreGoodSince old new
 
 -- These fragments, taken in with these bytes of a partial record, leave what is known of the table true.
 abbrev pub KnowsTrue : View → ℕ → List ℕ → List SeenFragment → Type 0

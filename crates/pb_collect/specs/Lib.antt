@@ -1,8 +1,12 @@
+pub mod Commands
 pub mod Effects
 pub mod Ends
+pub mod Exchanges
 pub mod Heard
 pub mod Inside
 pub mod Kept
 pub mod Progress
 pub mod Question
+pub mod Round
+pub mod Tables
 pub mod Taking

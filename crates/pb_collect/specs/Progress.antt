@@ -6,6 +6,7 @@ use Rattle.pb_bmp5.specs.declared.message.Mode.{Mode}
 use Rattle.pb_bmp5.specs.declared.message.Mode.TheVariants.{All, From, Newest, Range, Times, Part}
 use Rattle.pb_bmp5.specs.CollectReply.{SeenFragment, whole, part, SeenReply}
 use Rattle.pb_record.specs.Cut.{IsRun}
+use Rattle.pb_tdf.specs.Definition.{record_bytes_max}
 use Rattle.pb_archive.specs.Archive.{front, record_layout}
 use Rattle.pb_archive.specs.Entry.{Advance}
 use Rattle.pb_truth.specs.Keeping.{run_advance, gap_advance, content_advance}
@@ -13,6 +14,10 @@ use Rattle.pb_truth.specs.Learning.{Known, BeginsFrom, BeginsWithPart}
 use Rattle.pb_collect.specs.declared.effect.Effect.{Effect}
 use Rattle.pb_collect.specs.declared.effect.Effect.TheVariants.{Gap, Run, Content}
 use Rattle.pb_collect.specs.declared.effect.Effects.{Effects}
+
+-- the most bytes of a content: its time and its field bytes
+abbrev pub content_max : ℕ
+content_max = 8 + record_bytes_max
 
 -- How far a table came in a round, and how many requests it took.
 pub record Progress : Type 0 where
@@ -28,8 +33,6 @@ pub record Progress : Type 0 where
   pub had : ℕ
   -- the requests made so far
   pub asked : ℕ
-  -- the longest content that can be joined
-  pub room : ℕ
 
 -- the bytes so far of the partial record; none where no record is partial
 abbrev pub partial_bytes : Progress → List ℕ

@@ -4,7 +4,6 @@ use Rattle.std.specs.List.{AllByRecursion}
 use Rattle.pb_base.specs.Fields.{IsBytes}
 use Rattle.pb_base.specs.World.{World}
 use Rattle.pb_base.specs.History.{history}
-use Rattle.pb_base.specs.declared.layout.Layout.{Layout}
 use Rattle.pb_io.specs.View.{View}
 use Rattle.pb_bmp5.specs.CollectReply.{SeenFragment, whole, part}
 use Rattle.pb_archive.specs.Archive.{Table, Archive, record_layout}
@@ -49,9 +48,13 @@ abbrev pub bytes_in : SeenFragment → List ℕ
 bytes_in (whole first count bytes) = bytes
 bytes_in (part number offset bytes) = bytes
 
+abbrev pub run_in : SeenFragment → List ℕ
+run_in (whole first count bytes) = bytes
+run_in (part number offset bytes) = []
+
 -- bytes, and no more than one advance takes
 pub record IsBrief (f : SeenFragment) : Type 0 where
-  pub bytes : IsBytes (bytes_in f)
+  pub bytes : IsBytes (run_in f)
   pub few : length (bytes_in f) ≤ advance_bytes_max
 
 abbrev pub AreBrief : List SeenFragment → Type 0

@@ -1,5 +1,5 @@
 //! The collecting of one table as a machine: answers in, advances and requests out. It reads and writes nothing.
-ghost use Rattle.std.specs.Prelude.{◌≡◌, ◌+◌, ◌-◌, ◌^◌, ◌<◌, ◌≤◌, ◌++◌, false, IfOk};
+ghost use Rattle.std.specs.Prelude.{◌≡◌, ◌+◌, ◌-◌, ◌^◌, ◌<◌, ◌≤◌, ◌++◌, false};
 ghost use Rattle.pb_base.specs.Record.{content_len};
 ghost use Rattle.pb_bmp5.specs.CollectReply.{seen_of, whole};
 ghost use Rattle.pb_truth.specs.Keeping.{advances};
@@ -42,6 +42,9 @@ impl Model for Progress {
     ghost invariant = { IsProgress };
 }
 
+/// The most bytes of a content: eight of its time and 16,384 field bytes.
+pub const CONTENT_MAX: u32 = 16_392;
+
 // A layout with the shortest content.
 const SHORTEST: Layout = Layout {
     record_len: 0,
@@ -50,12 +53,9 @@ const SHORTEST: Layout = Layout {
 };
 
 impl Progress {
-    /// Room for contents of at most so many bytes, at least 8; takes memory.
-    pub fn with_room(alloc: Global, bytes: u32) -> Result<Progress, Memory>
-        requires { 8 ≤ bytes }
-        ensures room { IfOk result (λ p. p.room ≡ bytes) }
-    {
-        let partial = Partial::with_room(alloc, bytes)?;
+    /// Room for one content of any table; takes memory.
+    pub fn new(alloc: Global) -> Result<Progress, Memory> {
+        let partial = Partial::with_room(alloc, CONTENT_MAX)?;
         Ok(Progress {
             layout: SHORTEST,
             front: 0,
@@ -68,7 +68,7 @@ impl Progress {
 
     /// Begins a table with this front. Nothing was asked, and no record is partial.
     pub fn begin(&mut self, layout: Layout, front: RecNo)
-        requires { content_len layout ≤ self.old.room }
+        requires { content_len layout ≤ specs.content_max }
         ensures { self.new ≡ specs.begun self.old layout front.0 }
     {
         self.layout = layout;
@@ -201,6 +201,20 @@ impl Progress {
             self.is_partial = false;
         }
         self.ask()
+    }
+
+    /// The requests made so far.
+    pub fn asked(&self) -> u32
+        ensures { result ≡ self.now.asked }
+    {
+        self.asked
+    }
+
+    /// How the table's records are cut.
+    pub fn layout(&self) -> Layout
+        ensures { result ≡ self.now.layout }
+    {
+        self.layout
     }
 
     /// The content that was joined last; right after an effect `Content` it is that record's.

@@ -89,7 +89,7 @@ type Row<'a> = (&'a [u8], &'a [Effect<'a>], Option<Next>);
 fn goes(alloc: Global, front: u32, budget: u32, rows: &[Row]) -> Result<bool, Fail>
     requires { 1 ≤ budget }
 {
-    let mut progress = Progress::with_room(alloc, 10).ok().ok_or("memory")?;
+    let mut progress = Progress::new(alloc).ok().ok_or("memory")?;
     progress.begin(EVENTS, RecNo(front));
     let mut mode = progress.ask();
     for (message, effects, wanted) in rows {
@@ -244,7 +244,7 @@ fn answers_that_do_not_fit_are_passed_over(rt: HostRuntime) -> Result<(), Fail> 
 
 #[test]
 fn what_is_joined_is_the_content(rt: HostRuntime) -> Result<(), Fail> {
-    let mut progress = Progress::with_room(rt.alloc(), 10).ok().ok_or("memory")?;
+    let mut progress = Progress::new(rt.alloc()).ok().ok_or("memory")?;
     progress.begin(EVENTS, RecNo(5));
     let mode = progress.ask();
     assert!(rt; answered(&mut progress, mode, GAP_AND_PART, &[RUN_5]).is_some());

@@ -1,9 +1,9 @@
-use Rattle.std.proofs.Common.{◌≡◌, ◌≤◌, [], ◌∷◌, List, refl, sym, ◌∙◌, ap, subst, arith, rules}
+use Rattle.std.proofs.Common.{◌≡◌, ◌≤◌, ◌∷◌, List, refl, sym, ◌∙◌, ap, subst, rules}
 use Rattle.pb_base.specs.Record.{content_len}
 use Rattle.pb_base.specs.declared.layout.Layout.{Layout}
 use Rattle.pb_bmp5.specs.CollectReply.{SeenFragment, seen_of}
 use Rattle.pb_archive.specs.Entry.{advance_bytes_max}
-use Rattle.pb_collect.specs.Kept.{KeepsWhere, KnowsTrue}
+use Rattle.pb_collect.specs.Kept.{KnowsTrue}
 use Rattle.pb_collect.specs.Progress.{Progress, CanTakeAll, after_all, partial_bytes}
 use Rattle.pb_collect.specs.Taking.{AreBrief}
 use Rattle.pb_collect.proofs.KeptLemmas.{where_none, where_trans}

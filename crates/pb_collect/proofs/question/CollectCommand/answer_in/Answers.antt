@@ -1,4 +1,4 @@
-use Rattle.std.proofs.Common.{◌≡◌, sym, subst, rules}
+use Rattle.std.proofs.Common.{◌≡◌, subst, rules}
 use Rattle.pb_bmp5.specs.CollectReply.{SeenReply}
 use Rattle.pb_collect.specs.Progress.{Fits}
 use Rattle.pb_collect.proofs.question.CollectCommand.answer_in.Goals as goal

@@ -1,4 +1,3 @@
-use Rattle.std.proofs.Common.{arith}
 use Rattle.pb_collect.proofs.QuestionLemmas.{valid, short, fits, within}
 use Rattle.pb_collect.proofs.question.CollectCommand.write_message.Goals as goal
 

@@ -1,0 +1,26 @@
+use Rattle.std.proofs.Common.{◌≡◌, ◌-◌, ◌*◌, ◌^◌, ◌≤◌, false, length, vec_capacity}
+use Rattle.pb_archive.specs.Entry.{tables_max}
+use Rattle.pb_archive.specs.Opened.{IsOpen}
+use Rattle.pb_archive.specs.Refusals.{NeedsOpening}
+use Rattle.pb_collect.specs.Heard.{Listens}
+use Rattle.pb_collect.specs.Kept.{Keeps}
+use Rattle.pb_collect.specs.Round.{AreInOrder}
+use Rattle.pb_collect.proofs.collector.collect_tables.Given as goal
+
+abbrev pub invariant-tables : goal.invariant-tables
+invariant-tables g l = record {
+  room : tables_max ≤ vec_capacity l.outcomes;
+  few : length l.outcomes.items ≤ tables_max;
+  within : length l.outcomes.items ≤ length l.archive.tables;
+  order : AreInOrder 0 l.outcomes.items;
+  opened : IsOpen l.archive (g.S.Disk.view l.site);
+  usable : NeedsOpening l.archive false;
+  listens : Listens l.listener (g.S.Disk.view l.site).link;
+  keeps : Keeps (g.S.Disk.view l.fn.site) (g.S.Disk.view l.site);
+  faults : (g.S.Disk.view l.site).faults ≡ (g.S.Disk.view l.fn.site).faults;
+  link_faults : (g.S.Disk.view l.site).link.faults ≡ (g.S.Disk.view l.fn.site).link.faults;
+  count : l.listener.ear.count ≤ length l.outcomes.items * 2 ^ 46;
+}
+
+abbrev pub decreases-tables : goal.decreases-tables
+decreases-tables g l = tables_max - length l.outcomes.items

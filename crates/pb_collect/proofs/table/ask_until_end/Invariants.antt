@@ -1,0 +1,31 @@
+use Rattle.std.proofs.Common.{◌≡◌, ◌+◌, ◌-◌, ◌*◌, ◌^◌, ◌≤◌, false, []}
+use Rattle.pb_base.specs.Record.{content_len}
+use Rattle.pb_archive.specs.Entry.{advance_bytes_max}
+use Rattle.pb_archive.specs.Opened.{IsOpen}
+use Rattle.pb_archive.specs.Refusals.{NeedsOpening}
+use Rattle.pb_truth.specs.Pairs.{AreGood}
+use Rattle.pb_collect.specs.Heard.{Listens}
+use Rattle.pb_collect.specs.Kept.{HonestFrom, Keeps, KnowsTrue}
+use Rattle.pb_collect.specs.Progress.{question, partial_bytes}
+use Rattle.pb_collect.specs.Taking.{IsReady}
+use Rattle.pb_collect.proofs.table.ask_until_end.Given as goal
+
+abbrev pub invariant-requests : goal.invariant-requests
+invariant-requests g l = record {
+  mode : l.mode ≡ question l.progress;
+  some : 1 ≤ l.progress.asked;
+  within : l.progress.asked ≤ l.limits.budget;
+  small : content_len l.progress.layout ≤ advance_bytes_max;
+  ready : IsReady l.archive l.id.0 l.progress;
+  opened : IsOpen l.archive (g.S.Disk.view l.site);
+  usable : NeedsOpening l.archive false;
+  listens : Listens l.listener (g.S.Disk.view l.site).link;
+  keeps : Keeps (g.S.Disk.view l.fn.site) (g.S.Disk.view l.site);
+  knows : AreGood (g.S.Disk.view l.fn.site) → HonestFrom (g.S.Disk.view l.fn.site) (g.S.Disk.view l.site) → KnowsTrue (g.S.Disk.view l.site) l.id.0 (partial_bytes l.progress) [];
+  faults : (g.S.Disk.view l.site).faults ≡ (g.S.Disk.view l.fn.site).faults;
+  link_faults : (g.S.Disk.view l.site).link.faults ≡ (g.S.Disk.view l.fn.site).link.faults;
+  count : l.listener.ear.count ≤ l.fn.listener.ear.count + (l.progress.asked - 1) * 2 ^ 25;
+}
+
+abbrev pub decreases-requests : goal.decreases-requests
+decreases-requests g l = l.limits.budget - l.progress.asked
