@@ -110,10 +110,10 @@ module _ (o : OpenArchive) (now : View) (id : ℕ) (p : Progress) (opened : IsOp
       let plan : o.plan ≡ a.plan = ap (λ (r : Register). r.plan) stands.same ∙ ap (λ (y : Archive). y.plan) (sym same) in
       let kept = (is_kept has.bodies a has.archive).each id t at in
       record {
-        me = of.me ∙ ap (λ (q : Plan). q.me) plan ∙ sym kept.me;
-        station = of.station ∙ ap (λ (q : Plan). address_of (slice_get q.stations of.held.station)) plan ∙ ap (λ (h : Held). address_of (slice_get a.plan.stations h.station)) held ∙ sym kept.address;
-        number = ap (λ (n : TableNo). n.0) of.table ∙ ap (λ (h : Held). h.number.0) held;
-        signature = of.sig ∙ ap (λ (h : Held). h.table.signature) held ∙ sym kept.signature;
+        me = of.to.me ∙ ap (λ (q : Plan). q.me) plan ∙ sym kept.me;
+        station = of.to.station ∙ ap (λ (q : Plan). address_of (slice_get q.stations of.held.station)) plan ∙ ap (λ (h : Held). address_of (slice_get a.plan.stations h.station)) held ∙ sym kept.address;
+        number = ap (λ (n : TableNo). n.0) of.to.table ∙ ap (λ (h : Held). h.number.0) held;
+        signature = of.to.sig ∙ ap (λ (h : Held). h.table.signature) held ∙ sym kept.signature;
       }
 
   -- some table is there
@@ -137,7 +137,7 @@ module _ (o : OpenArchive) (now : View) (id : ℕ) (p : Progress) (opened : IsOp
         there = t.1;
         me = asked.me;
         key = key_is c.station c.table.0 c.sig t.0.key asked.station asked.number asked.signature;
-        below = subst (λ m. AsksFromAtMost (front t.0) (asked_mode m)) (sym of.mode) (question_low p (record { table = t.0; partial = partial_bytes p }) far);
+        below = subst (λ m. AsksFromAtMost (front t.0) (asked_mode m)) (sym of.to.mode) (question_low p (record { table = t.0; partial = partial_bytes p }) far);
       }
 
   -- what is known of the table once the answer is taken in
@@ -155,8 +155,8 @@ module _ (o : OpenArchive) (now : View) (id : ℕ) (p : Progress) (opened : IsOp
         dst = h.dst ∙ asked.me;
         proto = h.proto;
         reads = subst (λ m. CollectReads t.key.number (record_layout t.definition) reply m) (sym h.message)
-            (subst (λ (lay : Layout). CollectReads t.key.number lay reply (drop 8 l.ear.content)) (of.layout ∙ far.layout)
+            (subst (λ (lay : Layout). CollectReads t.key.number lay reply (drop 8 l.ear.content)) (of.to.layout ∙ far.layout)
             (subst (λ n. CollectReads n c.layout reply (drop 8 l.ear.content)) asked.number reads));
         complete = complete;
       })
-      (fits_known p k reply far (subst (λ m. Fits m reply) of.mode fits) complete)
+      (fits_known p k reply far (subst (λ m. Fits m reply) of.to.mode fits) complete)

@@ -8,9 +8,11 @@ use Rattle.pb_base.specs.History.{TableKey, history}
 use Rattle.pb_base.specs.declared.layout.Layout.{Layout}
 use Rattle.pb_base.specs.Record.{content_len}
 use Rattle.pb_bmp5.specs.CollectReply.{SeenFragment, whole, part}
-use Rattle.pb_io.specs.Crash.{Within}
+use Rattle.pb_io.specs.Crash.{Changes, Within}
 use Rattle.pb_io.specs.Site.{GrowsBy}
-use Rattle.pb_io.specs.Settled.{LeftBy}
+use Rattle.pb_io.specs.Settled.{IsSettled, LeftBy, Leaves}
+use Rattle.pb_journal.specs.Changes.{SameEntries, Keeps as KeepsEntries}
+use Rattle.pb_journal.specs.Entries.{Entries}
 use Rattle.pb_io.specs.View.{View, Link, IsLawful, LeavesOnly}
 use Rattle.pb_io.proofs.Moments.{started, LeavesOnly-trans, LeavesOnly-weaker}
 use Rattle.pb_journal.proofs.LawLemmas.{one_list}
@@ -21,11 +23,12 @@ use Rattle.pb_archive.proofs.HeldLemmas.{length-changed_at}
 use Rattle.pb_archive.proofs.LeadsLemmas.{one_archive}
 use Rattle.pb_archive.proofs.WritingLemmas.{Extends-refl, Extends-trans, Extends-after}
 use Rattle.pb_truth.specs.Honest.{Honest}
+use Rattle.pb_truth.specs.Image.{Good}
 use Rattle.pb_truth.specs.Learning.{Known, without_partial, SoundKnown, taken, learned}
 use Rattle.pb_truth.specs.Pairs.{AreGood, StaysTrueIn}
 use Rattle.pb_truth.proofs.GrowthLemmas.{honest_prefix, known_later}
 use Rattle.pb_truth.proofs.ViewLemmas.{good_start, good_then, good_writes}
-use Rattle.pb_collect.specs.Kept.{Collects, StaysOrCollects, GoesOnFrom, Grows, HonestFrom, KeepsWhere, Keeps, KeepsHonest, KnowsTrue}
+use Rattle.pb_collect.specs.Kept.{AllGoOnFrom, StaysOrCollects, GoesOnFrom, Grows, HonestFrom, KeepsWhere, Keeps, KeepsHonest, KnowsTrue}
 
 -- ---- one archive in a file
 
@@ -33,11 +36,30 @@ pub same_archive : (file : List ℕ) (a b : Archive) → HasArchive file a → H
 same_archive file a b x y =
     one_archive y.bodies a b (subst (λ bodies. IsArchive bodies a) (one_list file x.bodies y.bodies x.entries y.entries) x.archive) y.archive
 
+-- ---- the same entries
+
+same_list : (y : List ℕ) (x z : List ℕ) → SameEntries x y → SameEntries y z → SameEntries x z
+same_list y x z p q = (p.0, p.1, subst (λ bodies. Entries z bodies) (sym (one_list y p.0 q.0 p.2 q.1)) q.2)
+
+keeps_list : (x y z : List ℕ) → KeepsEntries x y → KeepsEntries y z → KeepsEntries x z
+keeps_list x y z (inl p) q = subst (λ f. KeepsEntries f z) p q
+keeps_list x y z (inr p) (inl q) = inr (subst (λ f. SameEntries x f) (sym q) p)
+keeps_list x y z (inr p) (inr q) = inr (same_list y x z p q)
+
+pub has_before : (x y : List ℕ) (a : Archive) → KeepsEntries x y → HasArchive y a → HasArchive x a
+has_before x y a (inl same) has = subst (λ f. HasArchive f a) same has
+has_before x y a (inr same) has = record { bodies = same.0; entries = same.1; archive = subst (λ bodies. IsArchive bodies a) (one_list y has.bodies same.0 has.entries same.2) has.archive }
+
+pub has_after : (x y : List ℕ) (a : Archive) → KeepsEntries x y → HasArchive x a → HasArchive y a
+has_after x y a (inl same) has = subst (λ f. HasArchive f a) (sym same) has
+has_after x y a (inr same) has = record { bodies = same.0; entries = same.2; archive = subst (λ bodies. IsArchive bodies a) (one_list x has.bodies same.0 has.entries same.1) has.archive }
+
 -- ---- archives go on
 
-stays_trans : (x y z : List ℕ) → StaysOrCollects x y → StaysOrCollects y z → StaysOrCollects x z
-stays_trans x y z (inl p) q = subst (λ f. StaysOrCollects f z) p q
-stays_trans x y z (inr p) (inl q) = inr (subst (λ f. Collects x f) (sym q) p)
+pub stays_trans : (x y z : List ℕ) → StaysOrCollects x y → StaysOrCollects y z → StaysOrCollects x z
+stays_trans x y z (inl p) (inl q) = inl (keeps_list x y z p q)
+stays_trans x y z (inl p) (inr q) = inr (record { one = q.one; other = q.other; before = has_before x y q.one p q.before; after = q.after; extends = q.extends; tables = q.tables })
+stays_trans x y z (inr p) (inl q) = inr (record { one = p.one; other = p.other; before = p.before; after = has_after y z p.other q p.after; extends = p.extends; tables = p.tables })
 stays_trans x y z (inr p) (inr q) =
     let same = same_archive y p.other q.one p.after q.before in
     inr (record {
@@ -102,12 +124,12 @@ honest_on w a b extends same honest = record {
 }
 
 honest_file : (w : World) (x y : List ℕ) (b : Archive) → StaysOrCollects x y → HasArchive y b → ((a : Archive) → HasArchive x a → Honest w a) → Honest w b
-honest_file w x y b (inl same) has honest = honest b (subst (λ f. HasArchive f b) same has)
+honest_file w x y b (inl kept) has honest = honest b (has_before x y b kept has)
 honest_file w x y b (inr c) has honest =
     subst (λ z. Honest w z) (same_archive y c.other b c.after has) (honest_on w c.one c.other c.extends c.tables (honest c.one c.before))
 
 -- what a crash leaves now goes on from what it left then
-now_from : (old new : View) → IsLawful new → LeavesOnly old new (GoesOnFrom old) → (w : World) (image : List ℕ) → new.link.world ≡ Some w → new.image image → GoesOnFrom old w image
+pub now_from : (old new : View) → IsLawful new → LeavesOnly old new (GoesOnFrom old) → (w : World) (image : List ℕ) → new.link.world ≡ Some w → new.image image → GoesOnFrom old w image
 now_from old new lawful leaves w image world is = leaves.each w image (lawful.counts_now old.moment w image leaves.later world is)
 
 -- honest then for what was left first
@@ -146,7 +168,7 @@ leaves_same : (d : View) → IsLawful d → LeavesOnly d d (GoesOnFrom d)
 leaves_same d lawful = started d (GoesOnFrom d) lawful (λ w image world is. record {
   first = image;
   was = is;
-  goes_on = inl refl;
+  goes_on = inl (inl refl);
   before = w;
   more = [];
   known = world;
@@ -223,7 +245,7 @@ same_count a (Advanced id advance) is = length-changed_at _ a.tables id
 same_count a (Stopped id stop) is = length-changed_at _ a.tables id
 
 step_collects : (change : Change) → IsOfTable change → (x y : List ℕ) → KeepsOrMakes change x y → StaysOrCollects x y
-step_collects change is x y (inl same) = inl same
+step_collects change is x y (inl same) = inl (inl same)
 step_collects change is x y (inr (inl kept)) = inr (record {
   one = kept.0;
   other = kept.0;
@@ -255,6 +277,39 @@ keeps_written P change old new is lawful stays writes = record {
   });
   good = λ p good. good_writes one_list one_archive (λ a c allowed. Extends-after a c allowed) change old new lawful good (stays p) writes;
 }
+
+-- ---- an opening
+
+-- it leaves the entries as they are
+pub keeps_opened : (old new : View) → IsLawful new → Leaves KeepsEntries old new → new.link ≡ old.link → Keeps old new
+keeps_opened old new lawful leaves link =
+    let goods : AreGood old → (w : World) (image : List ℕ) → LeftBy KeepsEntries old w image → Good w image = λ good w image left.
+    let first = good w left.1.0 left.0 left.1.1 in
+    record { archive = first.archive; has = has_after left.1.0 image first.archive left.1.2 first.has; sound = first.sound; asked = first.asked } in
+    record {
+      grows = grows_link old.link new.link link;
+      leaves = LeavesOnly-weaker old new (LeftBy KeepsEntries old) (GoesOnFrom old) leaves (λ w image left. record {
+        first = left.1.0;
+        was = left.1.1;
+        goes_on = inl left.1.2;
+        before = w;
+        more = [];
+        known = left.0;
+        is = sym (append-nil w);
+      });
+      good = λ good honest. record {
+        leaves = LeavesOnly-weaker old new (LeftBy KeepsEntries old) Good leaves (goods good);
+        here = λ w image world is. goods good w image (leaves.each w image (lawful.counts_now old.moment w image leaves.later world is));
+      };
+    }
+
+-- once an archive is opened, whatever a crash leaves goes on from the file as it read before
+pub all_go_on : (file : Option (List ℕ)) (mid new : View) → IsLawful new → Changes SameEntries file mid.file → IsSettled mid → LeavesOnly mid new (GoesOnFrom mid) → AllGoOnFrom file new
+all_go_on file mid new lawful same settled leaves w image first world is was =
+    let from = now_from mid new lawful leaves w image world is in
+    let g = same.on first was in
+    let one : g.0 ≡ from.first = same_Some g.0 from.first (sym g.1 ∙ settled from.first from.was) in
+    stays_trans first from.first image (inl (inr (subst (λ f. SameEntries first f) one g.2))) from.goes_on
 
 -- ---- what is known of a table
 

@@ -1,4 +1,6 @@
 pub mod AnswerLemmas
+pub mod AskedLemmas
+pub mod ChangingLemmas
 pub mod ExchangeLemmas
 pub mod FragmentLemmas
 pub mod HeardLemmas

@@ -65,14 +65,14 @@ stop_there before after id stop x held changed is then =
     ap (λ (h : Held). h.stop) (get_changed (ended stop) before.tables id x held is (sym (ap (λ (r : Register). slice_get r.tables id) changed) ∙ then))
 
 -- what else ends a table leaves no stop
-pub stops_none : (budget : ℕ) (p : Progress) (o : Outcome Said) (end : End) (held : Held) → EndsAs budget p o end → HasStopOf end held
-stops_none budget p o (Redefined old told) held ends = absurd ends
-stops_none budget p o Done held ends = tt
-stops_none budget p o NoAnswer held ends = tt
-stops_none budget p o Flooded held ends = tt
-stops_none budget p o (Undelivered code) held ends = tt
-stops_none budget p o (Refused code) held ends = tt
-stops_none budget p o Budget held ends = tt
+pub stops_none : (budget : ℕ) (p : Progress) (o : Outcome Said) (end : End) (held : Held) → EndsAs budget p o end → held.stop ≡ None → HasStopOf end held
+stops_none budget p o (Redefined old told) held ends none = absurd ends
+stops_none budget p o Done held ends none = none
+stops_none budget p o NoAnswer held ends none = none
+stops_none budget p o Flooded held ends none = none
+stops_none budget p o (Undelivered code) held ends none = none
+stops_none budget p o (Refused code) held ends none = none
+stops_none budget p o Budget held ends none = none
 
 -- ---- a table that is there
 

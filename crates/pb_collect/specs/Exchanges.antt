@@ -1,12 +1,12 @@
 -- One request of a table, and what came of it.
-use Rattle.std.specs.Prelude.{◌≡◌, true, false, ⊤, ℕ, drop}
+use Rattle.std.specs.Prelude.{◌≡◌, ◌≤◌, true, false, ⊤, ℕ, drop}
 use Rattle.pb_io.specs.Faults.{Rose}
 use Rattle.pb_io.specs.View.{View, Link}
 use Rattle.pb_bmp5.specs.CollectReply.{SeenReply, CollectReads}
 use Rattle.pb_archive.specs.Opened.{OpenArchive, IsOpen}
 use Rattle.pb_archive.specs.Refusals.{NeedsOpening}
 use Rattle.pb_trans.specs.declared.asked.Limits.{Limits}
-use Rattle.pb_ask.specs.Asking.{Asks}
+use Rattle.pb_ask.specs.Asking.{Asks, Stops}
 use Rattle.pb_ask.specs.Listening.{Listening}
 use Rattle.pb_ask.specs.declared.question.Outcome.{Outcome}
 use Rattle.pb_ask.specs.declared.question.Outcome.TheVariants.{Answer, Undelivered, NoAnswer, Flooded}
@@ -48,11 +48,18 @@ TeachesTrue c l now id p (Undelivered code) = ⊤
 TeachesTrue c l now id p NoAnswer = ⊤
 TeachesTrue c l now id p Flooded = ⊤
 
+-- one count rose, and the other stayed
+pub record RoseAlone (old new stays_old stays_new : ℕ) : Type 0 where
+  pub later : old ≤ new
+  pub rose : Rose old new
+  pub stays : stays_new ≡ stays_old
+
 -- why a round was broken off: a failed disk call, after which the archive must be opened again, or a failed link call, after
 -- which it stays usable
 abbrev pub BrokenBy : Broken → OpenArchive → View → View → Type 0
-BrokenBy DiskFault o old new = NeedsOpening o true × Rose old.faults new.faults
-BrokenBy LinkFault o old new = NeedsOpening o false × IsOpen o new × Rose old.link.faults new.link.faults
+BrokenBy DiskFault o old new = NeedsOpening o true × RoseAlone old.faults new.faults old.link.faults new.link.faults
+BrokenBy LinkFault o old new =
+    NeedsOpening o false × IsOpen o new × RoseAlone old.link.faults new.link.faults old.faults new.faults
 
 -- One request was asked and had this outcome, its answer was taken, and this comes next.
 pub record Exchanged (c : CollectCommand) (limits : Limits) (l_old : Listening) (link_old : Link) (p_old : Progress) (next : Next) (l_new : Listening) (link_new : Link) (p_new : Progress) : Type 0 where
@@ -61,3 +68,10 @@ pub record Exchanged (c : CollectCommand) (limits : Limits) (l_old : Listening) 
   pub asks : Asks (wanted_reply c) limits l_old link_old outcome l_new link_new
   pub took : TookBy c l_new outcome p_old mid
   pub comes : Comes limits.budget mid outcome next p_new
+
+-- A request that was broken off: a call of the link failed before it was answered, or it had an outcome and a disk call failed
+-- while its answer was taken.
+abbrev pub BreaksBy : Broken → CollectCommand → Limits → Listening → Link → Link → Type 0
+BreaksBy LinkFault c limits l link_old link_new = (last : Listening) × Stops (wanted_reply c) limits l link_old last link_new
+BreaksBy DiskFault c limits l link_old link_new =
+    (last : Listening) × (outcome : Outcome Said) × Asks (wanted_reply c) limits l link_old outcome last link_new

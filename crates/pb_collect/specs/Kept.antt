@@ -4,6 +4,7 @@ use Rattle.pb_base.specs.World.{World}
 use Rattle.pb_base.specs.History.{history}
 use Rattle.pb_bmp5.specs.CollectReply.{SeenFragment}
 use Rattle.pb_io.specs.View.{View, LeavesOnly}
+use Rattle.pb_journal.specs.Changes.{Keeps as KeepsEntries}
 use Rattle.pb_archive.specs.Archive.{Table, Archive, Extends, record_layout}
 use Rattle.pb_archive.specs.Held.{HasArchive}
 use Rattle.pb_truth.specs.Honest.{Honest}
@@ -21,8 +22,9 @@ pub record Collects (old new : List ℕ) : Type 0 where
   pub extends : Extends one other
   pub tables : length other.tables ≡ length one.tables
 
+-- The file itself, one with its entries, or one whose archive goes on from its.
 abbrev pub StaysOrCollects : List ℕ → List ℕ → Type 0
-StaysOrCollects old new = (new ≡ old) ⊎ Collects old new
+StaysOrCollects old new = KeepsEntries old new ⊎ Collects old new
 
 -- A file that goes on from one that a crash might have left at the first moment, in a world that grew from the one then.
 pub record GoesOnFrom (old : View) (w : World) (image : List ℕ) : Type 0 where
@@ -73,3 +75,8 @@ KnowsTrue now id partial fs =
     (w : World) (image : List ℕ) (a : Archive) (t : Table) → now.link.world ≡ Some w → now.image image
     → HasArchive image a → slice_get a.tables id ≡ Some t
     → SoundKnown (learned (record_layout t.definition) (record { table = t; partial = partial }) fs) (history w t.key)
+
+-- Each file that a crash of now may leave goes on from this one.
+abbrev pub AllGoOnFrom : Option (List ℕ) → View → Type 0
+AllGoOnFrom file now =
+    (w : World) (image first : List ℕ) → now.link.world ≡ Some w → now.image image → file ≡ Some first → StaysOrCollects first image

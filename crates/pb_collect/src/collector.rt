@@ -1,15 +1,16 @@
 //! The collector of an archive: rounds over all of its tables.
-ghost use Rattle.std.specs.Prelude.{◌≡◌, ◌↔◌, IsTrue, ◌+◌, ◌*◌, ◌^◌, ◌≤◌, [], true, false, length, vec_capacity, IfOk, IfErr, OnOk};
+ghost use Rattle.std.specs.Prelude.{◌≡◌, ◌↔◌, IsTrue, ◌+◌, ◌*◌, ◌^◌, ◌<◌, ◌≤◌, [], true, false, length, vec_capacity, IfOk, IfErr, OnOk, OnErr};
 ghost use Rattle.std.specs.List.{AllByRecursion};
 ghost use Rattle.pb_archive.specs.Entry.{tables_max};
-ghost use Rattle.pb_archive.specs.Opened.{IsOpen};
+ghost use Rattle.pb_archive.specs.Opened.{IsOpen, register_of};
 ghost use Rattle.pb_archive.specs.Refusals.{HasDiskCause, NeedsOpening, OpenRefuses};
+ghost use Rattle.pb_io.specs.Crash.{Changes};
 ghost use Rattle.pb_io.specs.Settled.{Leaves};
-ghost use Rattle.pb_journal.specs.Changes.{Keeps as KeepsEntries};
+ghost use Rattle.pb_journal.specs.Changes.{SameEntries, Keeps as KeepsEntries};
 ghost use Rattle.pb_collect.specs.Exchanges.{BrokenBy};
 ghost use Rattle.pb_collect.specs.Heard.{Listens};
 ghost use Rattle.pb_collect.specs.Kept.{Keeps};
-ghost use Rattle.pb_collect.specs.Round.{AreInOrder, ComesTo, IsDone, IsEndedBy, RoundIs};
+ghost use Rattle.pb_collect.specs.Round.{AreInOrder, Asks, AsksBy, AsksUntil, ComesTo, CountsOf, FrontsStand, IsDone, IsEndedBy, Reaches, RoundIs};
 
 use crate::broken::Broken;
 use crate::ending::End;
@@ -65,6 +66,7 @@ impl Collector {
     /// memory.
     pub fn open<S: Site>(alloc: Global, site: &mut S) -> Result<Collector, ArchiveFault>
         ensures opened { IfOk result (λ c. IsOpen c.archive (S.view site.new)) }
+        ensures same { OnOk result (Changes SameEntries (S.view site.old).file (S.view site.new).file) }
         ensures usable { IfOk result (λ c. c.ended ≡ false) }
         ensures leaves { Leaves KeepsEntries (S.view site.old) (S.view site.new) }
         ensures refused { IfErr result (OpenRefuses (S.view site.old).file) }
@@ -95,11 +97,16 @@ impl Collector {
         requires spent { limits.budget ≤ 1000000 }
         requires opened { IsOpen self.old.archive (S.view site.old) }
         requires usable { self.old.ended ≡ false }
-        ensures result { RoundIs result self.new (S.view site.old) (S.view site.new) }
+        ensures result { RoundIs result self.new.outcomes (length self.new.archive.tables) }
         ensures order { AreInOrder 0 self.new.outcomes }
+        ensures reaches { Reaches self.new.outcomes (register_of self.old.archive) (register_of self.new.archive) }
+        ensures asks { AsksBy result limits (register_of self.old.archive) self.new.outcomes
+            (S.view site.old).link (S.view site.new).link }
+        ensures fronts { FrontsStand self.new.outcomes (S.view site.new) }
         ensures keeps { Keeps (S.view site.old) (S.view site.new) }
         ensures opened { self.new.ended ≡ false → IsOpen self.new.archive (S.view site.new) }
         ensures ended { IsEndedBy result self.new.ended }
+        ensures counts { CountsOf result (S.view site.old) (S.view site.new) }
     {
         self.outcomes.clear();
         match collect_tables(
@@ -181,7 +188,12 @@ fn collect_tables<S: Site>(
     requires usable { NeedsOpening archive.old false }
     ensures room { tables_max ≤ vec_capacity outcomes.new }
     ensures all { OnOk result (length outcomes.new.items ≡ length archive.new.tables) }
+    ensures short { OnErr result (length outcomes.new.items < length archive.new.tables) }
     ensures order { AreInOrder 0 outcomes.new.items }
+    ensures reaches { Reaches outcomes.new.items (register_of archive.old) (register_of archive.new) }
+    ensures asks { OnOk result (Asks limits (register_of archive.old) outcomes.new.items (S.view site.old).link (S.view site.new).link) }
+    ensures breaks { IfErr result (λ broken. AsksUntil broken limits (register_of archive.old) outcomes.new.items (S.view site.old).link (S.view site.new).link) }
+    ensures fronts { FrontsStand outcomes.new.items (S.view site.new) }
     ensures opened { OnOk result (IsOpen archive.new (S.view site.new)) }
     ensures usable { OnOk result (NeedsOpening archive.new false) }
     ensures keeps { Keeps (S.view site.old) (S.view site.new) }

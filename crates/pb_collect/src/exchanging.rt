@@ -3,12 +3,13 @@ ghost use Rattle.std.specs.Prelude.{◌≡◌, ◌+◌, ◌^◌, ◌≤◌, [], 
 ghost use Rattle.pb_base.specs.Record.{content_len};
 ghost use Rattle.pb_bmp5.specs.CollectReply.{SeenReply};
 ghost use Rattle.pb_archive.specs.Entry as entry;
-ghost use Rattle.pb_archive.specs.Opened.{IsOpen};
+ghost use Rattle.pb_archive.specs.Opened.{IsOpen, register_of};
 ghost use Rattle.pb_archive.specs.Refusals.{HasDiskCause, NeedsOpening};
 ghost use Rattle.pb_truth.specs.Pairs.{AreGood};
 ghost use Rattle.pb_frame.specs.Hearing.{HoldsContent};
+ghost use Rattle.pb_collect.specs.Changing.{ChangesOnly};
 ghost use Rattle.pb_collect.specs.Commands.{IsCommandOf};
-ghost use Rattle.pb_collect.specs.Exchanges.{BrokenBy, Exchanged, ReadsNow, TeachesTrue, Took, TookBy};
+ghost use Rattle.pb_collect.specs.Exchanges.{BreaksBy, BrokenBy, Exchanged, ReadsNow, TeachesTrue, Took, TookBy};
 ghost use Rattle.pb_collect.specs.Heard.{HeardBy, Listens};
 ghost use Rattle.pb_collect.specs.Kept.{HonestFrom, KeepsHonest, KeepsWhere, KnowsTrue};
 ghost use Rattle.pb_collect.specs.Progress.{partial_bytes};
@@ -59,6 +60,7 @@ fn take_heard<D: Disk>(
     ensures knows { OnOk result ((reply : SeenReply) → ReadsNow command.now listener.now reply
         → KnowsTrue (D.view disk.old) id.0 (partial_bytes progress.old) reply.fragments
         → KnowsTrue (D.view disk.new) id.0 (partial_bytes progress.new) []) }
+    ensures changes { ChangesOnly id.0 (register_of archive.old) (register_of archive.new) }
     ensures link { (D.view disk.new).link ≡ (D.view disk.old).link }
     ensures refused { IfErr result (λ fault. fault ≡ ArchiveFault.DiskFault) }
     ensures must_reopen { OnErr result (NeedsOpening archive.new true) }
@@ -96,6 +98,7 @@ fn settle<D: Disk>(
     ensures knows { OnOk result (TeachesTrue command.now listener.now (D.view disk.old) id.0 progress.old outcome.now
         → KnowsTrue (D.view disk.old) id.0 (partial_bytes progress.old) []
         → KnowsTrue (D.view disk.new) id.0 (partial_bytes progress.new) []) }
+    ensures changes { ChangesOnly id.0 (register_of archive.old) (register_of archive.new) }
     ensures link { (D.view disk.new).link ≡ (D.view disk.old).link }
     ensures refused { IfErr result (λ fault. fault ≡ ArchiveFault.DiskFault) }
     ensures must_reopen { OnErr result (NeedsOpening archive.new true) }
@@ -136,6 +139,7 @@ pub(crate) fn exchange<S: Site>(
     requires usable { NeedsOpening archive.old false }
     ensures exchanged { IfOk result (λ next. Exchanged command.now limits listener.old (S.view site.old).link progress.old next
         listener.new (S.view site.new).link progress.new) }
+    ensures breaks { IfErr result (λ broken. BreaksBy broken command.now limits listener.old (S.view site.old).link (S.view site.new).link) }
     ensures ready { OnOk result (IsReady archive.new id.0 progress.new) }
     ensures opened { OnOk result (IsOpen archive.new (S.view site.new)) }
     ensures usable { OnOk result (NeedsOpening archive.new false) }
@@ -144,6 +148,7 @@ pub(crate) fn exchange<S: Site>(
     ensures knows { OnOk result (KnowsTrue (S.view site.old) id.0 (partial_bytes progress.old) []
         → AreGood (S.view site.old) → HonestFrom (S.view site.old) (S.view site.new)
         → KnowsTrue (S.view site.new) id.0 (partial_bytes progress.new) []) }
+    ensures changes { ChangesOnly id.0 (register_of archive.old) (register_of archive.new) }
     ensures broken { IfErr result (λ broken. BrokenBy broken archive.new (S.view site.old) (S.view site.new)) }
     ensures faults { OnOk result (((S.view site.new).faults ≡ (S.view site.old).faults) × ((S.view site.new).link.faults ≡ (S.view site.old).link.faults)) }
     ensures count { listener.new.ear.count ≤ listener.old.ear.count + 2 ^ 25 }

@@ -2,13 +2,15 @@
 ghost use Rattle.std.specs.Prelude.{◌≡◌, ◌+◌, ◌^◌, ◌<◌, ◌≤◌, false, Some, length, slice_get, IfOk, IfErr, OnOk};
 ghost use Rattle.pb_base.specs.Record.{content_len};
 ghost use Rattle.pb_archive.specs.Entry.{advance_bytes_max};
-ghost use Rattle.pb_archive.specs.Opened.{IsOpen};
+ghost use Rattle.pb_archive.specs.Opened.{IsOpen, register_of};
 ghost use Rattle.pb_archive.specs.Refusals.{NeedsOpening};
+ghost use Rattle.pb_collect.specs.Changing.{ChangesOnly};
 ghost use Rattle.pb_collect.specs.Commands.{IsCommandOf};
 ghost use Rattle.pb_collect.specs.Exchanges.{BrokenBy};
 ghost use Rattle.pb_collect.specs.Heard.{Listens};
 ghost use Rattle.pb_collect.specs.Kept.{Keeps};
-ghost use Rattle.pb_collect.specs.Tables.{CameOut, EndedBy, EndsBy, HasStopOf, end_of};
+ghost use Rattle.pb_collect.specs.Ends.{asked_once_more};
+ghost use Rattle.pb_collect.specs.Tables.{Asked, BreaksAt, BreaksFrom, BreaksOff, CameOut, EndedBy, EndsBy, HasStopOf, channel, end_of, point};
 ghost use Rattle.pb_collect.specs.Progress.{question};
 ghost use Rattle.pb_collect.specs.Taking.{IsReady};
 
@@ -77,13 +79,20 @@ fn ask_until_end<S: Site>(
     requires ready { IsReady archive.old id.0 progress.old }
     requires opened { IsOpen archive.old (S.view site.old) }
     requires usable { NeedsOpening archive.old false }
-    ensures ends { IfOk result (λ end. EndsBy limits listener.new (S.view site.new).link progress.new (end_of end)) }
+    ensures asks { IfOk result (λ end. (held : _) → slice_get archive.old.tables id.0 ≡ Some held
+        → Asked limits archive.old.plan held progress.new.asked
+        (point listener.old (S.view site.old).link (asked_once_more progress.old)) (end_of end)
+        (point listener.new (S.view site.new).link progress.new)) }
+    ensures breaks { IfErr result (λ broken. (held : _) → slice_get archive.old.tables id.0 ≡ Some held
+        → BreaksAt broken limits archive.old.plan held
+        (point listener.old (S.view site.old).link (asked_once_more progress.old)) (S.view site.new).link) }
     ensures asked { OnOk result ((1 ≤ progress.new.asked) × (progress.new.asked ≤ limits.budget)) }
     ensures ready { OnOk result (IsReady archive.new id.0 progress.new) }
     ensures opened { OnOk result (IsOpen archive.new (S.view site.new)) }
     ensures usable { OnOk result (NeedsOpening archive.new false) }
     ensures listens { OnOk result (Listens listener.new (S.view site.new).link) }
     ensures keeps { Keeps (S.view site.old) (S.view site.new) }
+    ensures changes { ChangesOnly id.0 (register_of archive.old) (register_of archive.new) }
     ensures broken { IfErr result (λ broken. BrokenBy broken archive.new (S.view site.old) (S.view site.new)) }
     ensures faults { OnOk result (((S.view site.new).faults ≡ (S.view site.old).faults) × ((S.view site.new).link.faults ≡ (S.view site.old).link.faults)) }
     ensures count { listener.new.ear.count ≤ listener.old.ear.count + 2 ^ 46 }
@@ -124,7 +133,15 @@ fn end_of_table<S: Site>(
     requires ready { IsReady archive.old id.0 progress.old }
     requires opened { IsOpen archive.old (S.view site.old) }
     requires usable { NeedsOpening archive.old false }
-    ensures ended { IfOk result (EndedBy limits listener.new (S.view site.new).link progress.new signature) }
+    requires signature { (held : _) → slice_get archive.old.tables id.0 ≡ Some held → signature ≡ held.table.signature }
+    ensures ended { IfOk result (λ end. (held : _) → slice_get archive.old.tables id.0 ≡ Some held
+        → EndedBy limits archive.old.plan held progress.new.asked
+        (point listener.old (S.view site.old).link (asked_once_more progress.old)) end
+        (point listener.new (S.view site.new).link progress.new)) }
+    ensures breaks { IfErr result (λ broken. (held : _) → slice_get archive.old.tables id.0 ≡ Some held
+        → BreaksFrom broken limits archive.old.plan held
+        (point listener.old (S.view site.old).link (asked_once_more progress.old)) (S.view site.new).link) }
+    ensures front { OnOk result ((held : _) → slice_get archive.new.tables id.0 ≡ Some held → held.front ≡ progress.new.front) }
     ensures stopped { IfOk result (λ end. (held : _) → slice_get archive.new.tables id.0 ≡ Some held → HasStopOf end held) }
     ensures asked { OnOk result ((1 ≤ progress.new.asked) × (progress.new.asked ≤ limits.budget)) }
     ensures there { OnOk result (id.0 < length archive.new.tables) }
@@ -132,6 +149,7 @@ fn end_of_table<S: Site>(
     ensures usable { OnOk result (NeedsOpening archive.new false) }
     ensures listens { OnOk result (Listens listener.new (S.view site.new).link) }
     ensures keeps { Keeps (S.view site.old) (S.view site.new) }
+    ensures changes { ChangesOnly id.0 (register_of archive.old) (register_of archive.new) }
     ensures broken { IfErr result (λ broken. BrokenBy broken archive.new (S.view site.old) (S.view site.new)) }
     ensures faults { OnOk result (((S.view site.new).faults ≡ (S.view site.old).faults) × ((S.view site.new).link.faults ≡ (S.view site.old).link.faults)) }
     ensures count { listener.new.ear.count ≤ listener.old.ear.count + 2 ^ 46 }
@@ -169,13 +187,19 @@ pub(crate) fn collect_table<S: Site>(
     requires opened { IsOpen archive.old (S.view site.old) }
     requires usable { NeedsOpening archive.old false }
     ensures came { IfOk result (λ o. (before : _) (after : _) → slice_get archive.old.tables id.0 ≡ Some before
-        → slice_get archive.new.tables id.0 ≡ Some after → CameOut limits id.0 before after o) }
+        → slice_get archive.new.tables id.0 ≡ Some after → CameOut id.0 before after o) }
+    ensures ends { IfOk result (λ o. (held : _) → slice_get archive.old.tables id.0 ≡ Some held
+        → EndsBy limits archive.old.plan held o (channel listener.old (S.view site.old).link)
+        (channel listener.new (S.view site.new).link)) }
+    ensures breaks { IfErr result (λ broken. (held : _) → slice_get archive.old.tables id.0 ≡ Some held
+        → BreaksOff broken limits archive.old.plan held (channel listener.old (S.view site.old).link) (S.view site.new).link) }
     ensures table { IfOk result (λ o. o.table ≡ id) }
     ensures there { OnOk result (id.0 < length archive.new.tables) }
     ensures opened { OnOk result (IsOpen archive.new (S.view site.new)) }
     ensures usable { OnOk result (NeedsOpening archive.new false) }
     ensures listens { OnOk result (Listens listener.new (S.view site.new).link) }
     ensures keeps { Keeps (S.view site.old) (S.view site.new) }
+    ensures changes { ChangesOnly id.0 (register_of archive.old) (register_of archive.new) }
     ensures broken { IfErr result (λ broken. BrokenBy broken archive.new (S.view site.old) (S.view site.new)) }
     ensures faults { OnOk result (((S.view site.new).faults ≡ (S.view site.old).faults) × ((S.view site.new).link.faults ≡ (S.view site.old).link.faults)) }
     ensures count { listener.new.ear.count ≤ listener.old.ear.count + 2 ^ 46 }
@@ -196,9 +220,12 @@ pub(crate) fn collect_table<S: Site>(
         None => {
             progress.begin(layout_of(archive, id), before.front);
             let signature = before.signature;
-            let end = end_of_table(
+            let end = match end_of_table(
                 archive, site, listener, progress, tran, limits, id, signature,
-            )?;
+            ) {
+                Ok(end) => end,
+                Err(broken) => return Err(broken),
+            };
             let after = state_of(archive, id);
             Ok(Outcome {
                 table: id,

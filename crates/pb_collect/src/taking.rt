@@ -5,6 +5,7 @@ ghost use Rattle.pb_bmp5.specs.CollectReply.{SeenFragment, seen_of};
 ghost use Rattle.pb_archive.specs.Entry as entry;
 ghost use Rattle.pb_archive.specs.Opened.{GoesOn, IsOpen, register_of};
 ghost use Rattle.pb_archive.specs.Refusals.{HasDiskCause, NeedsOpening};
+ghost use Rattle.pb_collect.specs.Changing.{ChangesOnly};
 ghost use Rattle.pb_collect.specs.Kept.{KeepsWhere, KnowsTrue};
 ghost use Rattle.pb_collect.specs.Progress.{CanTake, CanTakeAll, after, after_all, advance_in, partial_bytes};
 ghost use Rattle.pb_collect.specs.Taking.{AdvancesTrue, AllCameOf, AreBrief, CanFollow, IsBrief, IsReady, registers_after};
@@ -40,6 +41,7 @@ fn append<D: Disk>(
         (D.view disk.old) (D.view disk.new) }
     ensures came { OnOk result (AllCameOf (D.view disk.old) (D.view disk.new) id.0
         (advance_in progress.now.layout progress.now.joined effect.entry)) }
+    ensures changes { ChangesOnly id.0 (register_of archive.old) (register_of archive.new) }
     ensures link { (D.view disk.new).link ≡ (D.view disk.old).link }
     ensures refused { IfErr result (λ fault. fault ≡ ArchiveFault.DiskFault) }
     ensures must_reopen { OnErr result (NeedsOpening archive.new true) }
@@ -82,6 +84,7 @@ fn take_fragment<D: Disk>(
     ensures knows { OnOk result ((fs : List SeenFragment)
         → KnowsTrue (D.view disk.old) id.0 (partial_bytes progress.old) (seen_of fragment.now ∷ fs)
         → KnowsTrue (D.view disk.new) id.0 (partial_bytes progress.new) fs) }
+    ensures changes { ChangesOnly id.0 (register_of archive.old) (register_of archive.new) }
     ensures link { (D.view disk.new).link ≡ (D.view disk.old).link }
     ensures refused { IfErr result (λ fault. fault ≡ ArchiveFault.DiskFault) }
     ensures must_reopen { OnErr result (NeedsOpening archive.new true) }
@@ -115,6 +118,7 @@ pub(crate) fn take_answer<D: Disk>(
     ensures keeps { KeepsWhere (KnowsTrue (D.view disk.old) id.0 (partial_bytes progress.old) fragments.entry) (D.view disk.old) (D.view disk.new) }
     ensures knows { OnOk result (KnowsTrue (D.view disk.old) id.0 (partial_bytes progress.old) fragments.entry
         → KnowsTrue (D.view disk.new) id.0 (partial_bytes progress.new) []) }
+    ensures changes { ChangesOnly id.0 (register_of archive.old) (register_of archive.new) }
     ensures link { (D.view disk.new).link ≡ (D.view disk.old).link }
     ensures refused { IfErr result (λ fault. fault ≡ ArchiveFault.DiskFault) }
     ensures must_reopen { OnErr result (NeedsOpening archive.new true) }

@@ -1,10 +1,12 @@
 use Rattle.std.proofs.Common.{◌≡◌, ◌-◌, ◌*◌, ◌^◌, ◌≤◌, false, length, vec_capacity}
 use Rattle.pb_archive.specs.Entry.{tables_max}
-use Rattle.pb_archive.specs.Opened.{IsOpen}
+use Rattle.pb_archive.specs.Opened.{IsOpen, register_of}
 use Rattle.pb_archive.specs.Refusals.{NeedsOpening}
 use Rattle.pb_collect.specs.Heard.{Listens}
 use Rattle.pb_collect.specs.Kept.{Keeps}
-use Rattle.pb_collect.specs.Round.{AreInOrder}
+use Rattle.pb_collect.specs.Round.{AllEnd, AreInOrder}
+use Rattle.pb_collect.specs.Tables.{channel}
+use Rattle.pb_collect.proofs.RoundLemmas.{Reached}
 use Rattle.pb_collect.proofs.collector.collect_tables.Given as goal
 
 abbrev pub invariant-tables : goal.invariant-tables
@@ -13,6 +15,8 @@ invariant-tables g l = record {
   few : length l.outcomes.items ≤ tables_max;
   within : length l.outcomes.items ≤ length l.archive.tables;
   order : AreInOrder 0 l.outcomes.items;
+  reached : Reached l.outcomes.items (register_of l.fn.archive) (register_of l.archive);
+  asks : AllEnd l.limits (register_of l.fn.archive) l.outcomes.items (channel l.initial.listener (g.S.Disk.view l.fn.site).link) (channel l.listener (g.S.Disk.view l.site).link);
   opened : IsOpen l.archive (g.S.Disk.view l.site);
   usable : NeedsOpening l.archive false;
   listens : Listens l.listener (g.S.Disk.view l.site).link;

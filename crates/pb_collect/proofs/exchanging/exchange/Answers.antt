@@ -1,4 +1,7 @@
-use Rattle.std.proofs.Common.{arith}
+use Rattle.std.proofs.Common.{arith, sym, subst}
+use Rattle.pb_io.specs.View.{Link}
+use Rattle.pb_ask.specs.Asking.{Asks}
+use Rattle.pb_collect.specs.Question.{wanted_reply}
 use Rattle.pb_collect.proofs.AnswerLemmas.{allowed_in}
 use Rattle.pb_collect.proofs.ExchangeLemmas.{keeps_exchange, knows_exchange, took_same, ready_comes, knows_comes}
 use Rattle.pb_collect.proofs.exchanging.exchange.Goals as goal
@@ -33,3 +36,13 @@ returns-in-Err-settle-clause-keeps g c =
     keeps_exchange c.args.archive.now (g.S.Disk.view c.args.site.now) (g.S.Disk.view c.ask.new.site) c.args.id.0 c.args.progress.now c.args.command.now c.ask.new.listener
     c.requires.opened c.requires.ready c.requires.command c.ask.ensures.disk c.good_pieces_end_streams.ensures.ends c.ask.ensures.keeps
     (g.S.Disk.view c.settle.new.disk) c.in-Ok.outcome (g.met.S.Disk.lawful c.ask.new.site) c.in-Ok.ensures.heard c.settle.ensures.keeps
+
+pub returns-in-Err-clause-breaks : goal.returns-in-Err-clause-breaks
+returns-in-Err-clause-breaks g c = (c.ask.new.listener, c.in-Err.ensures.stops)
+
+pub returns-in-Err-settle-clause-breaks : goal.returns-in-Err-settle-clause-breaks
+returns-in-Err-settle-clause-breaks g c = (
+  c.ask.new.listener,
+  c.in-Ok.outcome,
+  subst (λ (k : Link). Asks (wanted_reply c.args.command.now) c.args.limits c.args.listener.now (g.S.Disk.view c.args.site.now).link c.in-Ok.outcome c.ask.new.listener k) (sym c.settle.ensures.link) c.in-Ok.ensures.asks,
+)

@@ -35,8 +35,8 @@ take_answer-requires-clause-can g c =
     let fragments : c.fragments.result ≡ m.reply.fragments =
     c.fragments.ensures ∙ ap (λ (r : SeenReply). r.fragments) (same_ok c.read_collect.result c.in-Ok.reply m.reply c.in-Ok.is (c.read_collect.ensures.only m.reply (subst (λ (l : List ℕ). CollectReads a.table.0 a.layout m.reply l) (sym c.message-message.ensures) m.reads))) in
     subst (λ (l : List SeenFragment). CanTakeAll p l) (sym fragments)
-    (c.answers_can_be_taken.ensures.taken p a.table.0 m.reply (drop 8 c.args.listener.now.ear.content) (subst (λ (l : Layout). CollectReads a.table.0 l m.reply (drop 8 c.args.listener.now.ear.content)) of.layout m.reads)
-    (m.resp ∙ c.requires.served) (subst (λ (k : Mode). Fits k m.reply) of.mode m.fits))
+    (c.answers_can_be_taken.ensures.taken p a.table.0 m.reply (drop 8 c.args.listener.now.ear.content) (subst (λ (l : Layout). CollectReads a.table.0 l m.reply (drop 8 c.args.listener.now.ear.content)) of.to.layout m.reads)
+    (m.resp ∙ c.requires.served) (subst (λ (k : Mode). Fits k m.reply) of.to.mode m.fits))
 
 pub take_answer-requires-clause-brief : goal.take_answer-requires-clause-brief
 take_answer-requires-clause-brief g c =

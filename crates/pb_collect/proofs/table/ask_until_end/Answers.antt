@@ -1,8 +1,16 @@
-use Rattle.std.proofs.Common.{◌≤◌, List, ℕ, [], refl, sym, ◌∙◌, ap, subst, arith}
+use Rattle.std.proofs.Common.{◌≤◌, ◌+◌, List, ℕ, [], refl, sym, ◌∙◌, ap, subst, arith, add-one}
 use Rattle.pb_base.specs.Record.{content_len}
 use Rattle.pb_base.specs.declared.layout.Layout.{Layout}
 use Rattle.pb_archive.specs.Entry.{advance_bytes_max}
+use Rattle.pb_archive.specs.Opened.{register_of}
+use Rattle.pb_collect.specs.Exchanges.{Exchanged}
 use Rattle.pb_collect.specs.Kept.{KnowsTrue}
+use Rattle.pb_collect.specs.Tables.{point}
+use Rattle.pb_collect.specs.Ends.{asked_once_more}
+use Rattle.pb_collect.specs.declared.ending.Next.{Next}
+use Rattle.pb_collect.specs.declared.ending.Next.TheVariants.{Stop, Ends}
+use Rattle.pb_collect.proofs.AskedLemmas.{command_before, asked_last, stops_not, ends_not}
+use Rattle.pb_collect.proofs.ChangingLemmas.{changes_none, changes_trans}
 use Rattle.pb_collect.specs.Progress.{Progress, partial_bytes}
 use Rattle.pb_collect.proofs.ExchangeLemmas.{ready_asked, closed_bytes, exchanged_layout, asks_next, ends_same}
 use Rattle.pb_collect.proofs.KeptLemmas.{keeps_none}
@@ -24,6 +32,8 @@ requests-init g c =
       opened = c.requires.opened;
       usable = c.requires.usable;
       listens = c.requires.listens;
+      asks = λ held there. (0, omega (arith, ap (λ (x : Progress). x.asked) is, c.requires.none), ap (λ (x : Progress). point c.args.listener.now now.link x) is);
+      changes = changes_none c.args.id.0 (register_of c.args.archive.now) (register_of c.args.archive.now) refl;
       keeps = keeps_none now (g.met.S.Disk.lawful c.args.site.now);
       knows = λ good honest. subst (λ (b : List ℕ). KnowsTrue now c.args.id.0 b []) (sym (closed_bytes p q is c.requires.closed)) (knows_start now c.args.id.0 good);
       faults = refl;
@@ -83,9 +93,71 @@ requests-preserved g c =
       opened = c.in-Ok-Ask.ensures.opened;
       usable = c.in-Ok-Ask.ensures.usable;
       listens = c.in-Ok-Ask.ensures.listens;
+      asks = λ held there.
+          let before = inv.asks held there in (
+            before.0 + 1,
+            omega (arith, next.1, before.1),
+            rw add-one (
+              point c.requests.listener now.link c.requests.progress,
+              c.in-Ok-Ask.next,
+              before.2,
+              record {
+                command = c.command_of-command.result;
+                of = command_before (register_of c.args.archive.now) c.requests.archive c.args.id.0 held c.requests.progress c.command_of-command.result inv.changes there c.command_of-command.ensures.of;
+                exchanged = subst (λ (n : Next). Exchanged c.command_of-command.result c.args.limits c.requests.listener now.link c.requests.progress n c.exchange.new.listener new.link c.exchange.new.progress) c.in-Ok-Ask.field-0-is c.in-Ok-Ask.ensures.exchanged;
+              },
+            ),
+          );
+      changes = changes_trans c.args.id.0 (register_of c.args.archive.now) (register_of c.requests.archive) (register_of c.exchange.new.archive) inv.changes c.exchange.ensures.changes;
       keeps = keeps_more (KnowsTrue now c.args.id.0 (partial_bytes c.requests.progress) []) old now new (g.met.S.Disk.lawful c.requests.site) inv.keeps inv.knows c.exchange.ensures.keeps;
       knows = knows_more (KnowsTrue now c.args.id.0 (partial_bytes c.requests.progress) []) old now new (g.met.S.Disk.lawful c.requests.site) inv.keeps inv.knows c.exchange.ensures.keeps (KnowsTrue new c.args.id.0 (partial_bytes c.exchange.new.progress) []) c.in-Ok-Ask.ensures.knows;
       faults = c.in-Ok-Ask.ensures.faults.0 ∙ inv.faults;
       link_faults = c.in-Ok-Ask.ensures.faults.1 ∙ inv.link_faults;
       count = omega (arith, inv.count, inv.some, next.1, c.exchange.ensures.count);
+    }
+
+pub returns-in-Ok-Stop-clause-asks : goal.returns-in-Ok-Stop-clause-asks
+returns-in-Ok-Stop-clause-asks g c held there =
+    let inv = c.requests.invariant in
+    let before = inv.asks held there in
+    asked_last c.args.limits (register_of c.args.archive.now) c.requests.archive c.args.id.0 held
+    (point c.args.listener.now (g.S.Disk.view c.args.site.now).link (asked_once_more c.args.progress.now)) (point c.requests.listener (g.S.Disk.view c.requests.site).link c.requests.progress)
+    (point c.exchange.new.listener (g.S.Disk.view c.exchange.new.site).link c.exchange.new.progress) before.0 Stop c.command_of-command.result
+    inv.changes there c.command_of-command.ensures.of before.1 before.2 (λ mode is. absurd (stops_not mode is))
+    (subst (λ (n : Next). Exchanged c.command_of-command.result c.args.limits c.requests.listener (g.S.Disk.view c.requests.site).link c.requests.progress n c.exchange.new.listener (g.S.Disk.view c.exchange.new.site).link c.exchange.new.progress) c.in-Ok-Stop.field-0-is c.in-Ok-Stop.ensures.exchanged)
+
+pub returns-in-Ok-Ends-clause-asks : goal.returns-in-Ok-Ends-clause-asks
+returns-in-Ok-Ends-clause-asks g c held there =
+    let inv = c.requests.invariant in
+    let before = inv.asks held there in
+    asked_last c.args.limits (register_of c.args.archive.now) c.requests.archive c.args.id.0 held
+    (point c.args.listener.now (g.S.Disk.view c.args.site.now).link (asked_once_more c.args.progress.now)) (point c.requests.listener (g.S.Disk.view c.requests.site).link c.requests.progress)
+    (point c.exchange.new.listener (g.S.Disk.view c.exchange.new.site).link c.exchange.new.progress) before.0 (Ends c.in-Ok-Ends.end) c.command_of-command.result
+    inv.changes there c.command_of-command.ensures.of before.1 before.2 (λ mode is. absurd (ends_not c.in-Ok-Ends.end mode is))
+    (subst (λ (n : Next). Exchanged c.command_of-command.result c.args.limits c.requests.listener (g.S.Disk.view c.requests.site).link c.requests.progress n c.exchange.new.listener (g.S.Disk.view c.exchange.new.site).link c.exchange.new.progress) c.in-Ok-Ends.field-0-is c.in-Ok-Ends.ensures.exchanged)
+
+pub returns-in-Ok-Stop-clause-changes : goal.returns-in-Ok-Stop-clause-changes
+returns-in-Ok-Stop-clause-changes g c =
+    changes_trans c.args.id.0 (register_of c.args.archive.now) (register_of c.requests.archive) (register_of c.exchange.new.archive) c.requests.invariant.changes c.exchange.ensures.changes
+
+pub returns-in-Ok-Ends-clause-changes : goal.returns-in-Ok-Ends-clause-changes
+returns-in-Ok-Ends-clause-changes g c =
+    changes_trans c.args.id.0 (register_of c.args.archive.now) (register_of c.requests.archive) (register_of c.exchange.new.archive) c.requests.invariant.changes c.exchange.ensures.changes
+
+pub returns-in-Err-clause-changes : goal.returns-in-Err-clause-changes
+returns-in-Err-clause-changes g c =
+    changes_trans c.args.id.0 (register_of c.args.archive.now) (register_of c.requests.archive) (register_of c.exchange.new.archive) c.requests.invariant.changes c.exchange.ensures.changes
+
+pub returns-in-Err-clause-breaks : goal.returns-in-Err-clause-breaks
+returns-in-Err-clause-breaks g c held there =
+    let inv = c.requests.invariant in
+    let before = inv.asks held there in
+    record {
+      before = before.0;
+      few = omega (arith, before.1, inv.within);
+      mid = point c.requests.listener (g.S.Disk.view c.requests.site).link c.requests.progress;
+      requests = before.2;
+      command = c.command_of-command.result;
+      of = command_before (register_of c.args.archive.now) c.requests.archive c.args.id.0 held c.requests.progress c.command_of-command.result inv.changes there c.command_of-command.ensures.of;
+      breaks = c.in-Err.ensures.breaks;
     }

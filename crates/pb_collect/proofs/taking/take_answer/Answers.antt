@@ -3,9 +3,11 @@ use Rattle.pb_base.specs.Record.{content_len}
 use Rattle.pb_base.specs.declared.layout.Layout.{Layout}
 use Rattle.pb_bmp5.specs.CollectReply.{SeenFragment, seen_of}
 use Rattle.pb_archive.specs.Entry.{advance_bytes_max}
+use Rattle.pb_archive.specs.Opened.{register_of}
 use Rattle.pb_collect.specs.Kept.{KnowsTrue}
 use Rattle.pb_collect.specs.Progress.{Progress, CanTakeAll, after_all, partial_bytes}
 use Rattle.pb_collect.specs.Taking.{AreBrief}
+use Rattle.pb_collect.proofs.ChangingLemmas.{changes_none, changes_trans}
 use Rattle.pb_collect.proofs.KeptLemmas.{where_none, where_trans}
 use Rattle.pb_collect.proofs.TakingLemmas.{after_layout}
 use Rattle.pb_collect.proofs.taking.take_answer.Goals as goal
@@ -24,6 +26,7 @@ loop-fragment-init g c =
       opened = c.requires.opened;
       usable = c.requires.usable;
       after = ap (λ (l : List SeenFragment). after_all c.args.progress.now l) is;
+      changes = changes_none id (register_of c.args.archive.now) (register_of c.args.archive.now) refl;
       keeps = where_none (KnowsTrue disk id part c.args.fragments) disk (g.met.D.Disk.lawful c.args.disk.now);
       knows = λ knows. subst (λ (l : List SeenFragment). KnowsTrue disk id part l) (sym is) knows;
       link = refl;
@@ -53,6 +56,7 @@ loop-fragment-preserved g c =
       opened = c.in_ok-take_fragment.ensures.opened;
       usable = c.in_ok-take_fragment.ensures.usable;
       after = ap (λ (q : Progress). after_all q c.next.new.self) is ∙ ap (λ (l : List SeenFragment). after_all p l) (sym step) ∙ inv.after;
+      changes = changes_trans id (register_of c.args.archive.now) (register_of c.loop-fragment.archive) (register_of c.take_fragment.new.archive) inv.changes c.take_fragment.ensures.changes;
       keeps = where_trans all (KnowsTrue now id (partial_bytes p) (f ∷ c.next.new.self)) old now new (g.met.D.Disk.lawful c.loop-fragment.disk) here inv.keeps (c.take_fragment.ensures.keeps c.next.new.self);
       knows = λ knows. c.in_ok-take_fragment.ensures.knows c.next.new.self (here knows);
       link = c.take_fragment.ensures.link ∙ inv.link;
@@ -80,3 +84,7 @@ returns-clause-knows g c =
     let p = c.loop-fragment.progress in
     let inv = c.loop-fragment.invariant in
     λ knows. subst (λ (l : List SeenFragment). KnowsTrue now id (partial_bytes p) l) c.in-None.ensures.steps.0 (inv.knows knows)
+
+pub returns-in_err-take_fragment-clause-changes : goal.returns-in_err-take_fragment-clause-changes
+returns-in_err-take_fragment-clause-changes g c =
+    changes_trans c.args.id.0 (register_of c.args.archive.now) (register_of c.loop-fragment.archive) (register_of c.take_fragment.new.archive) c.loop-fragment.invariant.changes c.take_fragment.ensures.changes

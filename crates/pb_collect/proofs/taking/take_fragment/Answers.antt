@@ -1,3 +1,5 @@
+use Rattle.pb_archive.specs.Opened.{register_of}
+use Rattle.pb_collect.proofs.ChangingLemmas.{changes_trans}
 use Rattle.pb_collect.proofs.FragmentLemmas.{ready_there, follows_gap, follows_kept, mid_there, mid_going, ready_new, keeps_gap, keeps_both, knows_new}
 use Rattle.pb_collect.proofs.taking.take_fragment.Goals as goal
 
@@ -50,3 +52,7 @@ returns-clause-knows g c fs =
     knows_new c.args.archive.now c.args.id.0 c.args.progress.now c.take-effects.new.self c.args.fragment.now c.take-effects.result c.take-effects.ensures.after c.take-effects.ensures.exactly c.requires.ready c.requires.can c.requires.brief c.requires.small
     (g.D.Disk.view c.args.disk.now) c.requires.opened c.take-effects.ensures.effects (g.D.Disk.view c.append.new.disk) (g.D.Disk.view c.append-2.new.disk) fs
     c.append.ensures.link c.append-2.ensures.link c.in_ok-append.ensures.came c.in_ok-append-2.ensures.came
+
+pub returns-clause-changes : goal.returns-clause-changes
+returns-clause-changes g c =
+    changes_trans c.args.id.0 (register_of c.args.archive.now) (register_of c.append.new.archive) (register_of c.append-2.new.archive) c.append.ensures.changes c.append-2.ensures.changes
