@@ -1,6 +1,7 @@
 mod CauseLemmas
 mod CheckLemmas
 mod ClosingLemmas
+mod CollectLemmas
 mod LineLemmas
 mod PingLemmas
 mod PrintLemmas

@@ -1,5 +1,5 @@
 -- What `check` prints of an archive: a line for each of its tables.
-use Rattle.std.specs.Prelude.{◌≡◌, ℕ, ◌-◌, List, [], ◌∷◌, Option, None, Some, Result, Ok, Err, slice_get, codes, decimal}
+use Rattle.std.specs.Prelude.{◌≡◌, ℕ, ◌-◌, List, [], ◌∷◌, ◌++◌, Option, None, Some, Result, Ok, Err, slice_get, codes, decimal}
 use Rattle.std.specs.List.{flat_map}
 use Rattle.std.specs.Option.{ForSome}
 use Rattle.pb_archive.specs.Archive.{Archive}
@@ -38,9 +38,13 @@ numbers_text t =
     joined (codes " front " ∷ decimal t.front ∷ codes " kept " ∷ decimal (t.front - t.gaps) ∷ codes " gap "
     ∷ decimal t.gaps ∷ stop_text t.stop ∷ [])
 
+-- `STATION TABLE`
+abbrev pub names_text : Plan → Held → List ℕ
+names_text plan t = joined (name_text (station_name plan t.station) ∷ codes " " ∷ name_text t.table.name ∷ [])
+
 -- `STATION TABLE front F kept K gap G`
 unfoldable pub table_text : Plan → Held → List ℕ
-table_text plan t = joined (name_text (station_name plan t.station) ∷ codes " " ∷ name_text t.table.name ∷ numbers_text t ∷ [])
+table_text plan t = names_text plan t ++ numbers_text t
 
 unfoldable pub check_text : Register → List ℕ
 check_text r = flat_map (table_text r.plan) r.tables

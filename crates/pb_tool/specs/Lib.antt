@@ -1,6 +1,7 @@
 pub mod Causes
 pub mod Check
 pub mod Closing
+pub mod Collect
 pub mod Init
 pub mod Input
 pub mod Inside

@@ -1,5 +1,5 @@
 -- A command by what its words say, without where they lie in memory.
-use Rattle.std.specs.Prelude.{ℕ}
+use Rattle.std.specs.Prelude.{ℕ, Option}
 use Rattle.pb_tool.specs.declared.words.Command.{Command}
 use Rattle.pb_tool.specs.declared.words.Command.TheVariants as command
 
@@ -9,6 +9,7 @@ pub data Order : Type 0 where
   Check : Order
   Ping : (me node : ℕ) → Order
   Serve : (frames : ℕ) → Order
+  Collect : (budget : Option ℕ) → Order
 
 abbrev pub order_of : Command → Order
 order_of command.Show = Show
@@ -16,3 +17,4 @@ order_of command.Init = Init
 order_of command.Check = Check
 order_of (command.Ping me node) = Ping me node
 order_of (command.Serve goal) = Serve goal
+order_of (command.Collect budget) = Collect budget

@@ -8,7 +8,7 @@ ghost use Rattle.pb_io.specs.Page.{Adds, printing};
 ghost use Rattle.pb_io.specs.Settled.{Leaves};
 ghost use Rattle.pb_journal.specs.Changes.{Keeps};
 ghost use Rattle.pb_tool.specs.Causes.{Counts};
-ghost use Rattle.pb_tool.specs.Check.{check_text, table_text, numbers_text, station_name, answer_text, answer_status, answered, RanCheck};
+ghost use Rattle.pb_tool.specs.Check.{check_text, names_text, table_text, numbers_text, station_name, answer_text, answer_status, answered, RanCheck};
 
 use crate::Status;
 use crate::closing::finish;
@@ -80,10 +80,18 @@ fn push_table<O: Sink>(page: &mut Page, archive: &Archive, table: TableView, out
     ensures { Adds (table_text archive.now.plan (seen_table table.entry)) (printing O.Sink page.old out.old)
         (printing O.Sink page.new out.new) }
 {
+    push_names(page, archive, table, out);
+    push_numbers(page, table, out);
+}
+
+/// Adds the names of a table's station and of the table.
+pub fn push_names<O: Sink>(page: &mut Page, archive: &Archive, table: TableView, out: &mut O)
+    ensures { Adds (names_text archive.now.plan (seen_table table.entry)) (printing O.Sink page.old out.old)
+        (printing O.Sink page.new out.new) }
+{
     push_escaped(page, name_of(archive, table.station), out);
     page.push(b" ", out);
     push_escaped(page, table.table.name(), out);
-    push_numbers(page, table, out);
 }
 
 // The name of a station of the plan.

@@ -5,11 +5,11 @@ ghost use Rattle.pb_tool.specs.Causes.{Causes};
 ghost use Rattle.pb_tool.specs.Order.{order_of};
 ghost use Rattle.pb_tool.specs.Ran.{Ran};
 ghost use Rattle.pb_tool.specs.Uses.{uses, Leaves, MayLeave};
-ghost use Rattle.pb_tool.specs.Words.{Said};
+ghost use Rattle.pb_tool.specs.Words.{IsAllowed, Said};
 
 use crate::closing::close;
 use crate::words::{self, Command};
-use crate::{Status, check, init, ping, serve, show};
+use crate::{Status, check, collect, init, ping, serve, show};
 use pb_io::{Sink, Site, Source};
 use std::alloc::Global;
 
@@ -18,7 +18,8 @@ use std::alloc::Global;
 ///
 /// `show` reads `input` to its end, and `ping` greets a node over the link of `site`; neither takes memory. `init` makes an
 /// archive of the plan that `input` is, in the file of `site`, and `check` tells what the archive there holds. `serve`
-/// answers on the link of `site` as the station of the script that `input` is.
+/// answers on the link of `site` as the station of the script that `input` is. `collect` asks the stations of the archive over
+/// the link of `site`, and keeps what they answer in its file.
 pub fn run<S: Site, I: Source, O: Sink>(
     alloc: Global,
     words: &[String],
@@ -59,6 +60,7 @@ fn perform<S: Site, I: Source, O: Sink>(
     input: &mut I,
     out: &mut O,
 ) -> Status
+    requires { IsAllowed (order_of command) }
     ensures ran { Ran (Some (order_of command)) result
         (outside S.Disk I.Source O.Sink site.old input.old out.old)
         (outside S.Disk I.Source O.Sink site.new input.new out.new) }
@@ -76,5 +78,6 @@ fn perform<S: Site, I: Source, O: Sink>(
         Command::Check => check::print(alloc, site, out),
         Command::Ping { me, node } => ping::print(me, node, site, out),
         Command::Serve { goal } => serve::print(alloc, goal, site, input, out),
+        Command::Collect { budget } => collect::print(alloc, budget, site, out),
     }
 }

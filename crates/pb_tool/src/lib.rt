@@ -3,6 +3,7 @@
 
 mod check;
 mod closing;
+mod collect;
 mod commands;
 mod init;
 mod input;
