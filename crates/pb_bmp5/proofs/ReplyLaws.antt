@@ -1,8 +1,7 @@
 -- The bytes of the replies and of the collect command, as they are written.
 use Rattle.std.proofs.Common.{◌≡◌, ◌<◌, ◌^◌, ℕ, zero, suc, List, [], ◌∷◌, ◌++◌, drop, refl, sym, ap, subst, ◌∙◌, append_assoc, arith}
-use Rattle.std.specs.Int.{w16, w32, to_be_bytes}
+use Rattle.std.specs.Int.{w16, to_be_bytes}
 use Rattle.pb_base.specs.declared.nsec.Nsec.{Nsec}
-use Rattle.pb_base.specs.Time.{time_bytes}
 use Rattle.pb_bmp5.specs.declared.message.Mode.{Mode}
 use Rattle.pb_bmp5.specs.declared.message.Mode.TheVariants as mode
 use Rattle.pb_bmp5.specs.Modes.{mode_number, parameter_bytes, ModeFits}

@@ -1,7 +1,11 @@
+pub mod AnsweredLemmas
 pub mod AnswerLemmas
 pub mod AskedLemmas
 pub mod ChangingLemmas
+pub mod CompleteLemmas
+pub mod CompleteRoundLemmas
 pub mod ExchangeLemmas
+pub mod FullLemmas
 pub mod FragmentLemmas
 pub mod HeardLemmas
 pub mod KeptLemmas

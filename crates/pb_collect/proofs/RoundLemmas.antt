@@ -1,6 +1,7 @@
 -- The tables of a round, one after the other.
 use Rattle.std.proofs.Common.{◌≡◌, ◌⊎◌, inl, inr, ⊎_elim, ℕ, zero, suc, ◌+◌, ◌<◌, ◌≤◌, List, [], ◌∷◌, ◌++◌, length, map, Option, Some, refl, sym, ◌∙◌, ap, subst, append-nil, length-append, arith}
 use Rattle.std.specs.Prelude.{slice_get}
+use Rattle.std.specs.List.{AllByRecursion}
 use Rattle.std.proofs.lemmas.Option.{none-some, same_Some}
 use Rattle.pb_base.specs.World.{heard}
 use Rattle.pb_frame.specs.Hearing.{StandsFor}
@@ -18,7 +19,7 @@ use Rattle.pb_collect.specs.Changing.{ChangesOnly}
 use Rattle.pb_collect.specs.Exchanges.{RoseAlone}
 use Rattle.pb_collect.specs.Heard.{Listens}
 use Rattle.pb_collect.specs.Kept.{Collects, GoesOnFrom}
-use Rattle.pb_collect.specs.Round.{AllCameOut, AllEnd, AreInOrder, Asks, AsksBy, ComesTo, CountsOf, EndsAt, FrontsStand, Reaches}
+use Rattle.pb_collect.specs.Round.{AllCameOut, AllEnd, AreInOrder, Asks, AsksBy, ComesTo, CountsOf, EndsAt, FrontsStand, IsDone, Reaches}
 use Rattle.pb_collect.specs.declared.collector.RoundResult.{RoundResult}
 use Rattle.pb_collect.specs.declared.collector.RoundResult.TheVariants.{Done, Incomplete, DiskFault, LinkFault}
 use Rattle.pb_collect.specs.Tables.{CameOut, Channel, EndsBy}
@@ -162,6 +163,12 @@ asks_by Done limits r os old new comes asks = asks
 asks_by Incomplete limits r os old new comes asks = asks
 asks_by DiskFault limits r os old new comes asks = absurd comes
 asks_by LinkFault limits r os old new comes asks = absurd comes
+
+pub comes_done : (result : RoundResult) (os : List Outcome) → ComesTo result os → AllByRecursion IsDone os → result ≡ Done
+comes_done Done os comes all = refl
+comes_done Incomplete os comes all = absurd (comes all)
+comes_done DiskFault os comes all = absurd comes
+comes_done LinkFault os comes all = absurd comes
 
 pub counts_by : (result : RoundResult) (os : List Outcome) (old new : View) → ComesTo result os → new.faults ≡ old.faults → new.link.faults ≡ old.link.faults → CountsOf result old new
 counts_by Done os old new comes disk link = record { disk_later = omega arith; disk_rose = λ is. absurd (cc is); disk_kept = λ other. disk; link_later = omega arith; link_rose = λ is. absurd (cc is); link_kept = λ other. link }

@@ -12,7 +12,7 @@ use Rattle.pb_ask.specs.declared.question.Outcome.{Outcome}
 use Rattle.pb_ask.specs.declared.question.Outcome.TheVariants.{Answer, Undelivered, NoAnswer, Flooded}
 use Rattle.pb_collect.specs.Ends.{Comes}
 use Rattle.pb_collect.specs.Kept.{KnowsTrue}
-use Rattle.pb_collect.specs.Question.{wanted_reply}
+use Rattle.pb_collect.specs.Question.{AsksOnce, wanted_reply}
 use Rattle.pb_collect.specs.declared.broken.Broken.{Broken}
 use Rattle.pb_collect.specs.declared.broken.Broken.TheVariants.{DiskFault, LinkFault}
 use Rattle.pb_collect.specs.declared.ending.Next.{Next}
@@ -61,8 +61,9 @@ BrokenBy DiskFault o old new = NeedsOpening o true × RoseAlone old.faults new.f
 BrokenBy LinkFault o old new =
     NeedsOpening o false × IsOpen o new × RoseAlone old.link.faults new.link.faults old.faults new.faults
 
--- One request was asked and had this outcome, its answer was taken, and this comes next.
+-- One request was asked, whose frame asks for nothing else, and had this outcome; its answer was taken, and this comes next.
 pub record Exchanged (c : CollectCommand) (limits : Limits) (l_old : Listening) (link_old : Link) (p_old : Progress) (next : Next) (l_new : Listening) (link_new : Link) (p_new : Progress) : Type 0 where
+  pub once : AsksOnce c
   pub outcome : Outcome Said
   pub mid : Progress
   pub asks : Asks (wanted_reply c) limits l_old link_old outcome l_new link_new

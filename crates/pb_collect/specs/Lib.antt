@@ -1,5 +1,6 @@
 pub mod Changing
 pub mod Commands
+pub mod Complete
 pub mod Effects
 pub mod Ends
 pub mod Exchanges

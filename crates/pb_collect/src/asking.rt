@@ -5,7 +5,7 @@ ghost use Rattle.pb_io.specs.Faults.{HasCause};
 ghost use Rattle.pb_ask.specs.Asking.{Asks, Stops};
 ghost use Rattle.pb_collect.specs.Heard.{Listens, IsAllowedIn, HeardBy};
 ghost use Rattle.pb_collect.specs.Kept.{Keeps};
-ghost use Rattle.pb_collect.specs.Question.{wanted_reply};
+ghost use Rattle.pb_collect.specs.Question.{AsksOnce, wanted_reply};
 
 use crate::answer::Said;
 use crate::question::CollectCommand;
@@ -27,6 +27,7 @@ pub(crate) fn ask<S: Site>(
     requires listens { Listens listener.old (S.view site.old).link }
     ensures asks { IfOk result (λ outcome. Asks (wanted_reply command.now) limits listener.old (S.view site.old).link outcome listener.new (S.view site.new).link) }
     ensures stops { OnErr result (Stops (wanted_reply command.now) limits listener.old (S.view site.old).link listener.new (S.view site.new).link) }
+    ensures once { AsksOnce command.now }
     ensures listens { OnOk result (Listens listener.new (S.view site.new).link) }
     ensures heard { IfOk result (λ outcome. HeardBy command.now outcome listener.new (S.view site.new).link) }
     ensures keeps { Keeps (S.view site.old) (S.view site.new) }

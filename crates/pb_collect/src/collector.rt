@@ -7,6 +7,7 @@ ghost use Rattle.pb_archive.specs.Refusals.{HasDiskCause, NeedsOpening, OpenRefu
 ghost use Rattle.pb_io.specs.Crash.{Changes};
 ghost use Rattle.pb_io.specs.Settled.{Leaves};
 ghost use Rattle.pb_journal.specs.Changes.{SameEntries, Keeps as KeepsEntries};
+ghost use Rattle.pb_collect.specs.Complete.{Completes};
 ghost use Rattle.pb_collect.specs.Exchanges.{BrokenBy};
 ghost use Rattle.pb_collect.specs.Heard.{Listens};
 ghost use Rattle.pb_collect.specs.Kept.{Keeps};
@@ -20,6 +21,7 @@ use crate::table::collect_table;
 use pb_archive::{Archive, ArchiveFault, TABLES_MAX};
 use pb_ask::Listener;
 use pb_base::TableId;
+use pb_frame::{law_limits, law_quoted};
 use pb_io::Site;
 use pb_trans::Limits;
 use std::alloc::Global;
@@ -107,7 +109,10 @@ impl Collector {
         ensures opened { self.new.ended ≡ false → IsOpen self.new.archive (S.view site.new) }
         ensures ended { IsEndedBy result self.new.ended }
         ensures counts { CountsOf result (S.view site.old) (S.view site.new) }
+        ensures complete { Completes result limits.budget (register_of self.old.archive) self.new.outcomes (S.view site.old) (S.view site.new) }
     {
+        law_limits();
+        law_quoted();
         self.outcomes.clear();
         match collect_tables(
             &mut self.archive,

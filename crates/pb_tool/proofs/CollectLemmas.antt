@@ -5,13 +5,19 @@ use Rattle.std.proofs.lemmas.Option.{none-some, same_Some}
 use Rattle.std.proofs.lemmas.List.{take_all}
 use Rattle.pb_archive.specs.Plan.{Plan}
 use Rattle.pb_archive.specs.declared.held.Held.{Held}
+use Rattle.pb_collect.specs.Complete.{Completes}
+use Rattle.pb_collect.specs.Kept.{Keeps}
 use Rattle.pb_collect.specs.Round.{AreInOrder, AsksBy, CountsOf, RoundIs}
 use Rattle.pb_collect.specs.declared.collector.RoundResult.{RoundResult}
 use Rattle.pb_collect.specs.declared.collector.RoundResult.TheVariants.{Done, Incomplete, DiskFault, LinkFault}
 use Rattle.pb_collect.specs.declared.outcome.Outcome.{Outcome}
 use Rattle.pb_io.specs.Faults.{Rose}
 use Rattle.pb_io.specs.Page.{Adds, Printing, Waiting}
-use Rattle.pb_io.specs.View.{View, Link}
+use Rattle.pb_io.specs.Crash.{Changes}
+use Rattle.pb_io.specs.View.{View, Link, IsLawful}
+use Rattle.pb_journal.specs.Changes.{SameEntries}
+use Rattle.pb_archive.specs.Opened.{Register}
+use Rattle.pb_collect.proofs.KeptLemmas.{honest_first, honest_then}
 use Rattle.pb_io.proofs.PageLemmas.{Adds-two}
 use Rattle.pb_tool.specs.Causes.{Counts}
 use Rattle.pb_tool.specs.Closing.{Finished}
@@ -94,6 +100,24 @@ came_after budget r old mid new link came = record {
   asks = subst (λ (k : Link). AsksBy r.result (limits_of budget) r.before r.outcomes k new.link) link came.asks;
   fronts = came.fronts;
 }
+
+-- an opening of a known file leaves a round as undisturbed as it is
+pub complete_after : (result : RoundResult) (budget : ℕ) (r : Register) (os : List Outcome) (old mid new : View) → IsLawful mid → mid.link ≡ old.link → Changes SameEntries old.file mid.file
+    → old.faults ≤ mid.faults → Keeps old mid → Keeps mid new → Completes result budget r os mid new → Completes result budget r os old new
+complete_after result budget r os old mid new lawful link same later opened keeps complete = λ first last u.
+    let file = same.on u.file u.known in
+    complete first last (record {
+      before = ap (λ (k : Link). k.world) link ∙ u.before;
+      after = u.after;
+      file = file.0;
+      known = file.1;
+      undisturbed = u.undisturbed;
+      good = (opened.good u.good (honest_first old mid new keeps.grows u.honest)).here;
+      honest = honest_then old mid new lawful keeps.grows opened.leaves u.honest;
+      no_disk_fault = λ rose. u.no_disk_fault (omega (arith, rose, later));
+      no_link_fault = λ rose. u.no_link_fault (omega (arith, rose, ap (λ (k : Link). k.faults) link));
+      can = u.can;
+    })
 
 -- ---- counts
 

@@ -7,6 +7,7 @@ use Rattle.pb_archive.specs.Plan.{Plan}
 use Rattle.pb_archive.specs.Refusals.{OpenRefuses}
 use Rattle.pb_archive.specs.declared.fault.ArchiveFault.{ArchiveFault}
 use Rattle.pb_archive.specs.declared.held.Held.{Held}
+use Rattle.pb_collect.specs.Complete.{Completes}
 use Rattle.pb_collect.specs.Kept.{AllGoOnFrom}
 use Rattle.pb_collect.specs.Round.{AreInOrder, AsksBy, FrontsStand, Reaches, RoundIs}
 use Rattle.pb_collect.specs.declared.collector.RoundResult.{RoundResult}
@@ -108,11 +109,13 @@ pub record Came (budget : ℕ) (r : Round) (old new : View) : Type 0 where
 abbrev pub round_text : Round → List ℕ
 round_text r = report_text r.after.plan r.after.tables r.outcomes ++ fault_line r.result
 
--- The round was over the archive in the file as it read at entry, and whatever a crash leaves goes on from that.
+-- The round was over the archive in the file as it read at entry, and whatever a crash leaves goes on from that. Where nothing
+-- disturbed it, it is done, and each table is complete.
 pub record Collects (budget : ℕ) (r : Round) (old new : View) : Type 0 where
   pub kept : ForSome old.file (IsKeptOf r.before)
   pub came : Came budget r old new
   pub goes_on : AllGoOnFrom old.file new
+  pub complete : Completes r.result budget r.before r.outcomes old new
 
 abbrev pub Means : ℕ → Result Round ArchiveFault → View → View → Type 0
 Means budget (Ok r) old new = Collects budget r old new
@@ -137,4 +140,5 @@ pub record RanRound (budget : ℕ) (result : Status) (first : Register) (before 
   pub round : Round
   pub is : round.before ≡ first
   pub came : Came budget round before after
+  pub complete : Completes round.result budget round.before round.outcomes before after
   pub printed : Closes (round_status round.result) result (round_text round) out_before.written out_after.written

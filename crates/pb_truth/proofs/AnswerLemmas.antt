@@ -1,5 +1,5 @@
 -- Full answers one after another: how each changes what is asked next, and how many there are.
-use Rattle.std.proofs.Common.{◌≡◌, ◌⊎◌, inl, inr, ⊎_elim, ℕ, zero, suc, ◌+◌, ◌-◌, ◌*◌, ◌<◌, ◌≤◌, max, Bool, true, false, List, [], ◌∷◌, ◌++◌, length, refl, sym, ◌∙◌, ap, subst, arith, Some, None}
+use Rattle.std.proofs.Common.{◌≡◌, ◌⊎◌, inl, inr, ⊎_elim, ℕ, suc, ◌+◌, ◌-◌, ◌*◌, ◌<◌, ◌≤◌, max, Bool, true, false, List, [], ◌∷◌, ◌++◌, length, refl, sym, ◌∙◌, ap, subst, arith, None}
 use Rattle.std.specs.Prelude.{if◌then◌else◌}
 use Rattle.std.specs.List.{AllByRecursion}
 use Rattle.std.proofs.lemmas.Bool.{cases_lt}
@@ -8,13 +8,13 @@ use Rattle.pb_base.specs.History.{History}
 use Rattle.pb_base.specs.Record.{content_len}
 use Rattle.pb_base.specs.Request.{From, Part}
 use Rattle.pb_bmp5.specs.CollectReply.{SeenFragment, part, SeenReply, AreFragments}
-use Rattle.pb_bmp5.specs.TrueReply.{Stage, IsStage, HasNone, IsEnd, Answers, Holds, IsAskedPart, IsNotHeld, AnswersFully, run_of, IsLong}
+use Rattle.pb_bmp5.specs.TrueReply.{Stage, HasNone, Answers, IsAskedPart, IsNotHeld, AnswersFully, run_of, IsLong}
 use Rattle.pb_archive.specs.Archive.{Table, front}
 use Rattle.pb_truth.specs.Learning.{Known, without_partial, joined, learned}
-use Rattle.pb_truth.specs.Bound.{parts_max, bound, mode_from, FullAnswer, has_some, next_known, GoesOn, Ends, IsNotBefore, AnswersOf, Last, More}
+use Rattle.pb_truth.specs.Bound.{parts_max, bound, mode_from, FullAnswer, has_some, next_known, GoesOn, Ends, IsNotBefore, AnswersOf, Last, More, GoesThrough, Unasked, Further}
 use Rattle.pb_truth.proofs.LearningLemmas.{fragments_in}
 use Rattle.pb_truth.proofs.CountLemmas.{Phase, Closed, Partial, Lost, Answered, Spent, IsBelow, Reaches, spent_more, asked_at_most, parts-enough, parts-some}
-use Rattle.pb_truth.proofs.BoundLemmas.{none-learned, none-some, none-or-some, none-ends, PartLeft, IsWhole, IsPartial, part_left, Left, NonePartial, OnePartial, Passed, some_pass}
+use Rattle.pb_truth.proofs.BoundLemmas.{none-learned, none-some, none-or-some, PartLeft, IsWhole, IsPartial, part_left, Left, NonePartial, OnePartial, Passed, some_pass}
 
 -- ---- where a table stands between two requests
 
@@ -258,3 +258,53 @@ within-bound layout h from k n end last answers none low =
   where
     starts : (f o : ℕ) → (max f o ≤ f) ⊎ (max f o ≤ o)
     starts f o = ⊎_elim (λ l. inr (omega (arith, l))) (λ g. inl (omega (arith, g))) (cases_lt f o)
+
+-- ---- so far
+
+-- where a table stands after so many requests
+record Went (layout : Layout) (base n : ℕ) (stage : Stage) (now : Known) : Type 0 where
+  phase : Phase
+  is_in : IsIn layout base stage now phase
+  spent : Spent base (parts_max layout) (front now.table) phase n
+
+went : (layout : Layout) (h : History) (base : ℕ) (from : Stage) (k : Known) (n : ℕ) (stage : Stage) (now : Known) → GoesThrough layout h from k n stage now
+    → IsIn layout base from k Closed → Went layout base n stage now
+went layout h base from k n' stage' now' Unasked start = record { phase = Closed; is_in = start; spent = omega arith }
+went layout h base from k n' stage' now' (Further n stage now before a later goes) start =
+    let so_far = went layout h base from k n stage now before start in
+    let leads = (full_steps layout h base stage now a later so_far.phase so_far.is_in).goes goes in
+    record {
+      phase = leads.next;
+      is_in = leads.is_in;
+      spent = spent_more base (content_len layout) (parts_max layout) (front now.table) (front (next_known layout now a.reply.fragments).table) n so_far.phase leads.next
+          (parts-enough layout) (parts-some layout) leads.answered (is_below layout base stage now so_far.phase so_far.is_in) so_far.spent;
+    }
+
+reaches_now : (layout : Layout) (base : ℕ) (stage : Stage) (now : Known) (phase : Phase) → IsIn layout base stage now phase → Reaches (front now.table) stage.next phase
+reaches_now layout base stage now Closed is_in = is_in.1
+reaches_now layout base stage now (Partial have) is_in = is_in.3
+reaches_now layout base stage now Lost is_in = is_in.1
+
+module _ (layout : Layout) (h : History) (from : Stage) (k : Known) (n : ℕ) (stage : Stage) (now : Known) (through : GoesThrough layout h from k n stage now)
+    (none : k.partial ≡ []) (low : front k.table ≤ from.next) where
+  so_far : Went layout (max (front k.table) from.oldest) n stage now
+  so_far = went layout h (max (front k.table) from.oldest) from k n stage now through (none, low, starts (front k.table) from.oldest)
+    where
+      starts : (f o : ℕ) → (max f o ≤ f) ⊎ (max f o ≤ o)
+      starts f o = ⊎_elim (λ l. inr (omega (arith, l))) (λ g. inl (omega (arith, g))) (cases_lt f o)
+
+  pub goes-within : n < bound layout (front k.table) from.oldest stage.next
+  goes-within =
+      let base = max (front k.table) from.oldest in
+      let few = asked_at_most base (content_len layout) (parts_max layout) (front now.table) stage.next n so_far.phase (parts-enough layout) (parts-some layout)
+      (is_below layout base stage now so_far.phase so_far.is_in) so_far.spent (reaches_now layout base stage now so_far.phase so_far.is_in) in
+      omega (arith, few)
+
+  pub ends-within : (a : FullAnswer layout h now) → IsNotBefore stage a.answer.stage → Ends layout now a.reply
+      → (suc n ≤ bound layout (front k.table) from.oldest a.answer.stage.next) × (front (learned layout now a.reply.fragments).table ≡ a.answer.stage.next)
+  ends-within a later ends =
+      let base = max (front k.table) from.oldest in
+      let there = (full_steps layout h base stage now a later so_far.phase so_far.is_in).ends ends in
+      let few = asked_at_most base (content_len layout) (parts_max layout) (front now.table) a.answer.stage.next n so_far.phase (parts-enough layout) (parts-some layout)
+      (is_below layout base stage now so_far.phase so_far.is_in) so_far.spent there.1 in
+      (omega (arith, few), there.0)

@@ -1,18 +1,16 @@
 -- What the advances for a fragment make of a table.
-use Rattle.std.proofs.Common.{◌≡◌, ℕ, zero, suc, ◌+◌, ◌-◌, ◌*◌, ◌≤◌, Bool, true, false, List, [], ◌∷◌, ◌++◌, length, map, take, drop, Option, Some, None, refl, sym, ◌∙◌, ap, subst, arith, length-drop, append_assoc, append-nil}
-use Rattle.std.specs.Int.{w16, w32, to_be_bytes, from_be_bytes, cast_signed}
+use Rattle.std.proofs.Common.{◌≡◌, ℕ, zero, suc, ◌+◌, ◌-◌, ◌*◌, ◌≤◌, Bool, true, false, List, [], ◌∷◌, ◌++◌, length, map, drop, Option, Some, None, refl, sym, ◌∙◌, ap, subst, arith, append_assoc, append-nil}
+use Rattle.std.specs.Int.{w16, w32, to_be_bytes}
 use Rattle.std.specs.Prelude.{nat_lt, ◌==◌, if◌then◌else◌, replicate}
-use Rattle.std.proofs.lemmas.List.{take-take, drop-take, drop-drop, take_all, take-append-drop, length-take-le, take_at, drop_at}
+use Rattle.std.proofs.lemmas.List.{take_all, take_at, drop_at}
 use Rattle.std.proofs.lemmas.Bool.{eqb-true, ltb-false}
 use Rattle.pb_base.specs.declared.nsec.Nsec.{Nsec}
 use Rattle.pb_base.specs.declared.layout.Layout.{Layout}
 use Rattle.pb_base.specs.Fields.{IsBytes}
 use Rattle.pb_base.specs.History.{History, IsFront}
 use Rattle.pb_archive.specs.Truth.{SoundTable}
-use Rattle.pb_base.specs.Record.{content, content_len, run_len, cut_records, records_from}
-use Rattle.pb_base.specs.Time.{time_bytes, time_of}
+use Rattle.pb_base.specs.Record.{content, content_len, run_len, cut_records}
 use Rattle.pb_base.proofs.FieldLaws.{IsBytes-take, IsBytes-drop}
-use Rattle.pb_base.proofs.TextLaws.{time_there}
 use Rattle.pb_bmp5.specs.CollectReply.{SeenFragment, whole, part, SeenReply, fragment_bytes, rest_of, Begins, AreFragments, CollectReads}
 use Rattle.pb_archive.specs.Archive.{Table, front, grown}
 use Rattle.pb_archive.specs.Entry.{Advance, pieces, contents}

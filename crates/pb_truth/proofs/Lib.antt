@@ -8,5 +8,7 @@ pub mod StreamLemmas
 pub mod TableLemmas
 pub mod ViewLemmas
 mod CountLemmas
-mod BoundLemmas
-mod AnswerLemmas
+pub mod BoundLemmas
+pub mod AnswerLemmas
+pub mod UndisturbedLemmas
+pub mod WholeLemmas

@@ -15,7 +15,7 @@ use Rattle.pb_truth.specs.Honest.{EndsGoodPiece}
 none_there : {A : Type 0} (x : A) → Contains [] x → ⊥
 none_there x has = omega (arith, has.1)
 
-only_one : {A : Type 0} (x y : A) → Contains (x ∷ []) y → x ≡ y
+pub only_one : {A : Type 0} (x y : A) → Contains (x ∷ []) y → x ≡ y
 only_one x y has = ⊎_elim (λ none. absurd (none_there y none)) (λ same. same) (Contains-push_cases [] x y has)
 
 from_one : {A B : Type 0} (f : A → List B) (xs : List A) (y : B) → Contains (flat_map f xs) y → (x : A) × Contains xs x × Contains (f x) y
@@ -106,7 +106,7 @@ ends_later earlier stream content ends = record {
 
 -- ---- written frames
 
-no_flag : {body text : List ℕ} → Quoted body text → HasNoFlag text
+pub no_flag : {body text : List ℕ} → Quoted body text → HasNoFlag text
 no_flag nothing = All-nil (λ byte. byte ≢ flag)
 no_flag (plain {byte = b} {text = t} not_quote not_flag q) = All-cons (λ byte. byte ≢ flag) b t not_flag (no_flag q)
 no_flag (quote_quoted {text = t} q) =
@@ -134,7 +134,7 @@ written_ends content size stands signed = record {
   content_is = content_back content _ _;
 }
 
-flag_alone : verdicts (flag ∷ []) ≡ []
+pub flag_alone : verdicts (flag ∷ []) ≡ []
 unfolding verdicts pieces placed cut
 flag_alone = refl
 

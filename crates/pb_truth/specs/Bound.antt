@@ -77,3 +77,11 @@ pub data AnswersOf (layout : Layout) (h : History) : Stage → Known → ℕ →
       → IsNotBefore from a.answer.stage → GoesOn layout k a.reply
       → AnswersOf layout h a.answer.stage (next_known layout k a.reply.fragments) n end last
       → AnswersOf layout h from k (suc n) end last
+
+-- So many requests, each answered fully and at no earlier stage than the one before, after each of which the table goes on:
+-- from a stage and what is known, to the last answer's stage and what is known when the next request is made.
+pub data GoesThrough (layout : Layout) (h : History) (from : Stage) (k : Known) : ℕ → Stage → Known → Type 0 where
+  Unasked : GoesThrough layout h from k 0 from k
+  Further : (n : ℕ) (stage : Stage) (now : Known) → GoesThrough layout h from k n stage now → (a : FullAnswer layout h now)
+      → IsNotBefore stage a.answer.stage → GoesOn layout now a.reply
+      → GoesThrough layout h from k (suc n) a.answer.stage (next_known layout now a.reply.fragments)

@@ -4,7 +4,7 @@ use Rattle.std.specs.List.{AllByRecursion}
 use Rattle.pb_base.specs.World.{World, Event, Begin, Sent, Quiet, bytes_heard}
 use Rattle.pb_base.specs.History.{History, history}
 use Rattle.pb_base.specs.Request.{Request}
-use Rattle.pb_frame.specs.Framing.{frame}
+use Rattle.pb_frame.specs.Framing.{IsContentSize, frame}
 use Rattle.pb_bmp5.specs.TrueReply.{Delivered, Stage, FullReply}
 use Rattle.pb_truth.specs.Asked.{IsIn}
 use Rattle.pb_truth.specs.Honest.{Delivers}
@@ -32,6 +32,7 @@ pub record IsExchange (before events : World) : Type 0 where
   pub request : Request
   pub asks : IsIn request sent
   pub content : List ℕ
+  pub size : IsContentSize (length content)
   pub heard : bytes_heard rest ≡ frame content
   pub packet : Delivered
   pub delivers : Delivers content packet

@@ -10,7 +10,7 @@ mod pairs;
 mod worked;
 
 pub use asking::{requests_stay_below_the_fronts, written_frames_ask_once};
-pub use bound::full_answers_end_within_the_bound;
+pub use bound::{full_answers_end_within_the_bound, full_answers_go_on_within_the_bound};
 pub use growth::{archives_outlive_events, honest_worlds_were_honest, knowledge_outlives_events};
 pub use hearing::{
     good_pieces_end_streams, heard_replies_are_answers, heard_replies_teach_the_truth,

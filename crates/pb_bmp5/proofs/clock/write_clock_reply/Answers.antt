@@ -1,4 +1,4 @@
-use Rattle.std.proofs.Common.{IfOk, OnErr, ℕ, List, rules}
+use Rattle.std.proofs.Common.{IfOk, OnErr, ℕ, rules}
 use Rattle.pb_base.specs.Put.{IsWritten, DoesNotFit}
 use Rattle.pb_bmp5.specs.Message.{ClockReply, InRange}
 use Rattle.pb_bmp5.proofs.ReplyLaws.{clock_answer_bytes, clock_refusal_bytes, clock_refusal_fits, at_zero}

@@ -1,4 +1,4 @@
-use Rattle.std.proofs.Common.{IfOk, OnErr, ℕ, List, rules}
+use Rattle.std.proofs.Common.{IfOk, OnErr, ℕ, rules}
 use Rattle.pb_base.specs.Put.{IsWritten, DoesNotFit}
 use Rattle.pb_bmp5.specs.Message.{DownloadReply, InRange}
 use Rattle.pb_bmp5.proofs.ReplyLaws.{download_answer_bytes, download_refusal_bytes, download_refusal_fits, at_zero}

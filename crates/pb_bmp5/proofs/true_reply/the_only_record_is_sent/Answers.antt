@@ -2,7 +2,7 @@ use Rattle.std.proofs.Common.{ℕ, None, List, [], ◌∷◌, false, refl, arith
 use Rattle.std.proofs.lemmas.List.Elements.{Contains-push}
 use Rattle.pb_base.specs.Time.{time_bytes}
 use Rattle.pb_base.specs.World.{StoredRecord}
-use Rattle.pb_bmp5.specs.CollectReply.{whole, part, Begins}
+use Rattle.pb_bmp5.specs.CollectReply.{part, Begins}
 use Rattle.pb_bmp5.specs.TrueReply.{IsTrueOf}
 use Rattle.pb_bmp5.specs.WorkedReply.{second, worked_definition, worked_history, worked_request, worked_reply, worked_rest_request, worked_rest}
 use Rattle.pb_bmp5.proofs.WorkedLemmas.{worked_says}

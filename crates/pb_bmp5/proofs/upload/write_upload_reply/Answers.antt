@@ -1,4 +1,4 @@
-use Rattle.std.proofs.Common.{IfOk, OnErr, ℕ, List, rules}
+use Rattle.std.proofs.Common.{IfOk, OnErr, ℕ, rules}
 use Rattle.pb_base.specs.Put.{IsWritten, DoesNotFit}
 use Rattle.pb_bmp5.specs.Message.{UploadReply, InRange}
 use Rattle.pb_bmp5.proofs.ReplyLaws.{upload_answer_bytes, upload_refusal_bytes, upload_refusal_fits, at_zero}

@@ -3,9 +3,10 @@ use Rattle.std.specs.Option.{ForSome}
 use Rattle.pb_archive.specs.Opened.{Register}
 use Rattle.pb_collect.proofs.KeptLemmas.{all_go_on, keeps_opened, keeps_trans}
 use Rattle.pb_tool.specs.Check.{IsKeptOf}
-use Rattle.pb_tool.specs.Collect.{Came, answer_text}
+use Rattle.pb_collect.specs.Complete.{Completes}
+use Rattle.pb_tool.specs.Collect.{Came, answer_text, budget_of}
 use Rattle.pb_tool.proofs.CheckLemmas.{means_of}
-use Rattle.pb_tool.proofs.CollectLemmas.{came_after}
+use Rattle.pb_tool.proofs.CollectLemmas.{came_after, complete_after}
 use Rattle.pb_tool.proofs.collect.print.Goals as goal
 
 pub returns-in-Ok-clause-ran : goal.returns-in-Ok-clause-ran
@@ -24,6 +25,10 @@ returns-in-Ok-clause-ran g c =
         kept = subst (λ (r : Register). ForSome old.file (IsKeptOf r)) (sym ran.is) (means_of (Ok archive) old.file mid c.in-Ok.ensures.same opened tt);
         came = subst (λ n. Came n ran.round old new) c.budget_of-budget.ensures.budget came;
         goes_on = all_go_on old.file mid new (g.met.S.Disk.lawful c.round.new.site) c.in-Ok.ensures.same opened.settled c.round.ensures.keeps.leaves;
+        complete = complete_after ran.round.result (budget_of c.args.budget) ran.round.before ran.round.outcomes old mid new (g.met.S.Disk.lawful c.open.new.site) c.open.ensures.link
+            c.in-Ok.ensures.same c.open.ensures.cause.later
+            (keeps_opened old mid (g.met.S.Disk.lawful c.open.new.site) c.open.ensures.leaves c.open.ensures.link) c.round.ensures.keeps
+            (subst (λ n. Completes ran.round.result n ran.round.before ran.round.outcomes mid new) c.budget_of-budget.ensures.budget ran.complete);
       };
       printed = ran.printed;
     }

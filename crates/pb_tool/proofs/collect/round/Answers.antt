@@ -33,6 +33,7 @@ returns-clause-ran g c =
       round = r;
       is = refl;
       came = record { result = e.result; order = e.order; reaches = e.reaches; asks = e.asks; fronts = e.fronts };
+      complete = e.complete;
       printed = subst (λ (s : Status). Closes s c.finish.result (round_text r) (g.O.Sink.written c.args.out.now) (g.O.Sink.written c.finish.new.out)) c.status_of.ensures closes;
     }
 

@@ -1,4 +1,4 @@
-use Rattle.std.proofs.Common.{◌≡◌, ℕ, None, Bool, true, false, List, [], ◌∷◌, ◌++◌, length, refl, sym, subst, ◌∙◌, ap, arith, append_assoc, append-nil, inl, inr}
+use Rattle.std.proofs.Common.{◌≡◌, ℕ, Bool, true, List, [], ◌∷◌, ◌++◌, length, refl, sym, subst, ◌∙◌, ap, arith, append_assoc, append-nil, inl, inr}
 use Rattle.std.proofs.lemmas.List.Elements.{Contains-push}
 use Rattle.std.specs.List.{AllByRecursion, Contains, flat_map}
 use Rattle.pb_base.specs.World.{World, Sent, all_heard, bytes_heard, heard_from}
@@ -187,6 +187,7 @@ returns-clause-undisturbed c =
       request = worked_request;
       asks = is_in c.written_frames_ask_once.ensures.asks;
       content = answering;
+      size = inr (omega arith, omega arith);
       heard = all-bytes (frame answering);
       packet = worked_reply;
       delivers = delivers;
