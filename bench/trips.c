@@ -6,6 +6,7 @@
 #include <arpa/inet.h>
 #include <fcntl.h>
 #include <netinet/tcp.h>
+#include <signal.h>
 #include <stdint.h>
 #include <stdio.h>
 #include <stdlib.h>
@@ -75,7 +76,10 @@ int main(int argc, char **argv) {
     for (long done = 0; done < count; done++) {
         if (done == count / 10) before = resident(child);
         if (done == count - 1) after = resident(child);
-        if (!trip(stream)) return 1;
+        if (!trip(stream)) {
+            kill(child, SIGKILL);
+            return 1;
+        }
     }
     double passed = now() - start;
     int status;
