@@ -6,6 +6,7 @@ use Rattle.std.specs.List.{AllByRecursion, flat_map}
 use Rattle.pb_io.specs.Crash.{Changes}
 use Rattle.pb_io.specs.Settled.{IsSettled, LeftBy, Leaves}
 use Rattle.pb_io.specs.View.{View, IsLawful}
+use Rattle.pb_io.proofs.CrashLemmas.{Changes-same, Changes-trans, Changes-weaker}
 use Rattle.pb_io.proofs.Moments.{LeavesOnly-trans, LeavesOnly-weaker}
 use Rattle.pb_journal.specs.Changes.{Gains, Keeps, KeepsOrBegins, KeepsOrGains, Same, SameEntries}
 use Rattle.pb_journal.specs.Entries.{Entries, max_body_len}
@@ -40,12 +41,6 @@ Leaves-trans A B C old mid new lawful weaker both first second =
 pub Leaves-weaker : (A C : List ℕ → List ℕ → Type 0) (old new : View) → ((f c : List ℕ) → old.image f → A f c → C f c) → Leaves A old new → Leaves C old new
 Leaves-weaker A C old new weaker first =
     LeavesOnly-weaker old new (LeftBy A old) (LeftBy C old) first (λ w c p. (p.0, (p.1.0, p.1.1, weaker p.1.0 c p.1.1 p.1.2)))
-
-pub Changes-trans : (A B C : List ℕ → List ℕ → Type 0) (a b c : Option (List ℕ)) → ((f m g : List ℕ) → A f m → B m g → C f g) → Changes A a b → Changes B b c → Changes C a c
-Changes-trans A B C a b c both first second = record {
-  on = λ f view. let m = first.on f view in let g = second.on m.0 m.1 in (g.0, g.1, both f m.0 g.0 m.2 g.2);
-  back = λ g view. let m = second.back g view in let f = first.back m.0 m.1 in (f.0, f.1, both f.0 m.0 g f.2 m.2);
-}
 
 -- ---- steps
 
@@ -102,6 +97,12 @@ module _ (plan : Plan) where
   empties_inits f c (inr (inl entries)) = inr (inl entries)
   empties_inits f c (inr (inr (before, after))) = inr (inr (before, inl after))
 
+  pub empties_file : (a b : Option (List ℕ)) → Changes KeepsOrEmpties a b → Changes (KeepsOrInits plan) a b
+  empties_file a b = Changes-weaker KeepsOrEmpties (KeepsOrInits plan) a b (λ f g is. empties_inits f g)
+
+  pub looked_file : (a b c : Option (List ℕ)) → Changes KeepsOrEmpties a b → c ≡ b → Changes (KeepsOrInits plan) a c
+  looked_file a b c first same = empties_file a c (Changes-same KeepsOrEmpties a b c first same)
+
   pub empties_same : (f m c : List ℕ) → KeepsOrEmpties f m → Same m c → KeepsOrInits plan f c
   empties_same f m c step at = subst (KeepsOrInits plan f) (sym at) (empties_inits f m step)
 
@@ -136,6 +137,11 @@ module _ (plan : Plan) where
         Leaves-trans KeepsOrEmpties (λ m x. Entries m [] × KeepsOrGains body m x) (KeepsOrInits plan) a c d lc empties_inits inits_step
         (Leaves-trans KeepsOrEmpties Same KeepsOrEmpties a b c lb (λ f x step. step) empties_kept first second)
         (Leaves-weaker (KeepsOrGains body) (λ m x. Entries m [] × KeepsOrGains body m x) c d (λ m x image step. (none m (settled m image), step)) third)
+
+    pub init_file : (a b c d : Option (List ℕ)) → Changes KeepsOrEmpties a b → c ≡ b → ForSome c (λ m. Entries m []) → Changes (KeepsOrGains body) c d → Changes (KeepsOrInits plan) a d
+    init_file a b c d first same none =
+        Changes-trans KeepsOrEmpties (KeepsOrGains body) (KeepsOrInits plan) a c d (λ f m g is now step kept. inits_step f m g step (none m now, kept))
+        (Changes-same KeepsOrEmpties a b c first same)
 
     pub init_made : (a b c d : Option (List ℕ)) → Changes IsReady a b → c ≡ b → ForSome c (λ m. Entries m []) → Changes (Gains body) c d → Changes (Inits plan) a d
     init_made a b c d is_ready same none gains = record {

@@ -9,6 +9,7 @@ use Rattle.pb_io.specs.Crash.{Changes}
 use Rattle.pb_io.specs.Settled.{IsSettled, LeftBy, Leaves}
 use Rattle.pb_io.specs.View.{View, IsLawful}
 use Rattle.pb_io.proofs.Moments.{LeavesOnly-weaker}
+use Rattle.pb_io.proofs.CrashLemmas.{Changes-none, Changes-weaker}
 use Rattle.pb_io.proofs.RunLemmas.{Runs-none}
 use Rattle.pb_journal.specs.Changes.{Gains, KeepsOrGains, SameEntries}
 use Rattle.pb_journal.specs.Entries.{Entries}
@@ -145,8 +146,9 @@ goes_on change f g (inr (inr makes)) = inr (record {
 
 module _ (change : Change) (old new : View) where
   -- of a call that leaves this of each file
-  pub writes_by : new.link ≡ old.link → Leaves (KeepsOrMakes change) old new → Writes change old new
-  writes_by link leaves = record {
+  pub writes_by : new.link ≡ old.link → Changes (KeepsOrMakes change) old.file new.file → Leaves (KeepsOrMakes change) old new → Writes change old new
+  writes_by link file leaves = record {
+    file = file;
     link = link;
     leaves = leaves;
     goes_on = LeavesOnly-weaker old new (LeftBy (KeepsOrMakes change) old) (LeftBy StaysOrGoesOn old) leaves
@@ -157,6 +159,10 @@ module _ (change : Change) (old new : View) where
   leaves_made r gate body can leaves =
       LeavesOnly-weaker old new (LeftBy (KeepsOrGains body) old) (LeftBy (KeepsOrMakes change) old) leaves
       (λ w c left. (left.0, (left.1.0, left.1.1, kept_or_made r change gate body old can left.1.0 (can.settled left.1.0 left.1.1) c left.1.2)))
+
+  pub file_made : (r : Register) (gate : ℕ) (body : List ℕ) → CanWrite r change gate body old → Changes (KeepsOrGains body) old.file new.file → Changes (KeepsOrMakes change) old.file new.file
+  file_made r gate body can =
+      Changes-weaker (KeepsOrGains body) (KeepsOrMakes change) old.file new.file (λ f g is kept. kept_or_made r change gate body old can f is g kept)
 
   pub wrote_by : (r : Register) (gate : ℕ) (body : List ℕ) → IsLawful old → CanWrite r change gate body old → Changes (Gains body) old.file new.file → IsSettled new → Wrote change old new
   wrote_by r gate body lawful can gains settled = record {
@@ -175,4 +181,4 @@ module _ (change : Change) (old new : View) where
 
 -- no call
 pub writes_none : (change : Change) (disk : View) → IsLawful disk → Writes change disk disk
-writes_none change disk lawful = writes_by change disk disk refl (Runs-none (KeepsOrMakes change) disk lawful (λ c. inl refl)).leaves
+writes_none change disk lawful = writes_by change disk disk refl (Changes-none (KeepsOrMakes change) disk.file (λ c. inl refl)) (Runs-none (KeepsOrMakes change) disk lawful (λ c. inl refl)).leaves

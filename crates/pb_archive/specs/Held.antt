@@ -38,11 +38,12 @@ pub record GoesOn (old new : List ℕ) : Type 0 where
 abbrev pub StaysOrGoesOn : List ℕ → List ℕ → Type 0
 StaysOrGoesOn old new = (new ≡ old) ⊎ GoesOn old new
 
--- What a writing call does to a disk, whatever it answers. At any moment of it, and after it, a crash leaves the world as
--- it was, and a file that it might have left before, its archive, or that archive after the change; and what is in it
--- goes on from what was there.
+-- What a writing call does to a disk, whatever it answers. Afterwards the file is the one that it was, or has its archive,
+-- or that archive after the change. At any moment of it, and after it, a crash leaves the world as it was, and a file that
+-- it might have left before, its archive, or that archive after the change; and what is in it goes on from what was there.
 pub record Writes (change : Change) (old new : View) : Type 0 where
   pub link : new.link ≡ old.link
+  pub file : Changes (KeepsOrMakes change) old.file new.file
   pub leaves : Leaves (KeepsOrMakes change) old new
   pub goes_on : Leaves StaysOrGoesOn old new
 

@@ -20,6 +20,7 @@ use std::alloc::Global;
 // Makes a journal where there is none.
 fn make_journal<D: Disk>(disk: &mut D) -> Result<(), ArchiveFault>
     ensures made { OnOk result (Changes IsCreatedNow (D.view disk.old).file (D.view disk.new).file) }
+    ensures file { Changes KeepsOrBegins (D.view disk.old).file (D.view disk.new).file }
     ensures leaves { Leaves KeepsOrBegins (D.view disk.old) (D.view disk.new) }
     ensures refused { IfErr result (λ fault. fault ≡ ArchiveFault.DiskFault) }
     ensures link { (D.view disk.new).link ≡ (D.view disk.old).link }
@@ -37,6 +38,7 @@ fn open_journal<D: Disk>(alloc: Global, disk: &mut D) -> Result<Journal, Archive
     ensures ready { OnOk result (Changes IsReady (D.view disk.old).file (D.view disk.new).file) }
     ensures opened { IfOk result (λ journal. IsOpened journal.gate (D.view disk.new)) }
     ensures usable { IfOk result (λ journal. journal.must_reopen ≡ false) }
+    ensures file { Changes KeepsOrEmpties (D.view disk.old).file (D.view disk.new).file }
     ensures leaves { Leaves KeepsOrEmpties (D.view disk.old) (D.view disk.new) }
     ensures refused { IfErr result (InitRefuses (D.view disk.old).file) }
     ensures link { (D.view disk.new).link ≡ (D.view disk.old).link }
@@ -72,10 +74,12 @@ fn has_entry<D: Disk>(alloc: Global, journal: &Journal, disk: &mut D) -> Result<
 ///
 /// `Exists` comes where the file has an entry, and `Format` where it is no journal. A creation that was cut off is
 /// finished. At any moment a crash leaves the entries of a file that it might have left before; or, where that had none, no
-/// archive or the new one. Once it has answered Ok, nothing is pending.
+/// archive or the new one. So does a call that is refused, for whatever cause: an archive that was there is as it was. Once
+/// it has answered Ok, nothing is pending.
 pub fn init<D: Disk>(alloc: Global, disk: &mut D, plan: &Plan) -> Result<(), ArchiveFault>
     ensures made { OnOk result (Changes (Inits plan.now) (D.view disk.old).file (D.view disk.new).file) }
     ensures settled { OnOk result (IsSettled (D.view disk.new)) }
+    ensures file { Changes (KeepsOrInits plan.now) (D.view disk.old).file (D.view disk.new).file }
     ensures leaves { Leaves (KeepsOrInits plan.now) (D.view disk.old) (D.view disk.new) }
     ensures refused { IfErr result (InitRefuses (D.view disk.old).file) }
     ensures link { (D.view disk.new).link ≡ (D.view disk.old).link }

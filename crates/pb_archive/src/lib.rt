@@ -34,3 +34,5 @@ pub use table_view::{Stop, TableView};
 mod row_tests;
 #[cfg(test)]
 mod tests;
+#[cfg(test)]
+mod writing_tests;

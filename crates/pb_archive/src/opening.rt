@@ -134,11 +134,13 @@ impl Archive {
     ///
     /// `NotCreated` comes where the file holds no journal or one without entries. `Format` comes at the first byte that no
     /// journal has, or at the gate of the first entry that breaks a rule. At any moment a crash leaves a file with the
-    /// entries of one that it might have left before. Once it has answered Ok, nothing is pending.
+    /// entries of one that it might have left before, and whatever it answers, a disk fault too, the file has the entries
+    /// that it had. Once it has answered Ok, nothing is pending.
     pub fn open<D: Disk>(alloc: Global, disk: &mut D) -> Result<Archive, ArchiveFault>
         ensures same { OnOk result (Changes SameEntries (D.view disk.old).file (D.view disk.new).file) }
         ensures opened { IfOk result (λ a. IsOpen a (D.view disk.new)) }
         ensures usable { IfOk result (λ a. a.journal.must_reopen ≡ false) }
+        ensures file { Changes Keeps (D.view disk.old).file (D.view disk.new).file }
         ensures leaves { Leaves Keeps (D.view disk.old) (D.view disk.new) }
         ensures refused { IfErr result (OpenRefuses (D.view disk.old).file) }
         ensures link { (D.view disk.new).link ≡ (D.view disk.old).link }

@@ -37,6 +37,8 @@ fn other_texts_are_refused_at_their_lines(rt: HostRuntime) -> Result<(), Fail> {
         (b"self 0 via 1\nstation 10 0 a\n", 1),
         (b"self 4095 via 1\nstation 10 0 a\n", 1),
         (b"self 4094 via 4095\nstation 10 0 a\n", 1),
+        (b"self 4094 via 0\nstation 10 0 a\n", 1),
+        (b"\nself 4094 via 1\nstation 10 0 a\n", 1),
         (b"self 04094 via 1\nstation 10 0 a\n", 1),
         (b"self +94 via 1\nstation 10 0 a\n", 1),
         (b"self 4094  via 1\nstation 10 0 a\n", 1),
@@ -46,6 +48,10 @@ fn other_texts_are_refused_at_their_lines(rt: HostRuntime) -> Result<(), Fail> {
         (b"self 4094 via 1\n\n", 2),
         (b"self 4094 via 1\nstation 4094 0 a\n", 2),
         (b"self 4094 via 1\nstation 0 0 a\n", 2),
+        (b"self 4094 via 1\nstation 4095 0 a\n", 2),
+        (b"self 4094 via 1\nstation 010 0 a\n", 2),
+        (b"self 4094 via 1\nstation 10 00 a\n", 2),
+        (b"self 4094 via 1\nstation 10 0 \xC3\xA9\n", 2),
         (b"self 4094 via 1\nstation 10 65536 a\n", 2),
         (b"self 4094 via 1\nstation 10 0 \n", 2),
         (b"self 4094 via 1\nstation 10 0 a b\n", 2),
@@ -71,6 +77,21 @@ fn other_texts_are_refused_at_their_lines(rt: HostRuntime) -> Result<(), Fail> {
     Ok(())
 }
 
+// A plan has 64 stations at most; the 65th is the 66th line.
+#[test]
+fn a_plan_has_at_most_64_stations(rt: HostRuntime) -> Result<(), Fail> {
+    let alloc = rt.alloc();
+    let mut text = String::from_str(alloc, "self 4094 via 1\n")?;
+    for number in 1..65 {
+        text.push_str(&format!(in alloc; "station {number} 0 s{number}\n")?)?;
+    }
+    let plan = Plan::read(alloc, text.as_bytes()).ok().ok_or("a plan")?;
+    assert_eq!(rt; plan.count(), 64);
+    text.push_str("station 65 0 s65\n")?;
+    assert_eq!(rt; refused_line(alloc, text.as_bytes()), Some(66));
+    Ok(())
+}
+
 // A plan of one station: own address 4094, through node 10, and station 10 with code 0 and name a.
 pub(crate) const PLAN: &[u8] = b"\x50\x0F\xFE\x00\x0A\x01\x00\x0A\x00\x00a\x00";
 // Table 1 of station 0: an event table T of 10 records, with one value V of two bytes.
@@ -85,6 +106,18 @@ const KEPT: &[u8] =
 
 const STOP: &[u8] = b"\x53\x00\x00\x01\x8A\x5F";
 
+// Adds an entry with its gate open.
+pub(crate) fn push_entry(file: &mut Vec<u8>, body: &[u8]) -> Result<(), AllocError> {
+    file.extend_from_slice(&[
+        0x5A,
+        0,
+        0,
+        (body.len() / 256 % 256) as u8,
+        (body.len() % 256) as u8,
+    ])?;
+    file.extend_from_slice(body)
+}
+
 // A journal with these bodies, and the place of the last one's gate.
 pub(crate) fn file_of(alloc: Global, bodies: &[&[u8]]) -> Result<(Vec<u8>, u64), AllocError> {
     let mut file = Vec::new(alloc);
@@ -92,14 +125,7 @@ pub(crate) fn file_of(alloc: Global, bodies: &[&[u8]]) -> Result<(Vec<u8>, u64),
     let mut gate = 8;
     for body in bodies {
         gate = file.len() as u64;
-        file.extend_from_slice(&[
-            0x5A,
-            0,
-            0,
-            (body.len() / 256 % 256) as u8,
-            (body.len() % 256) as u8,
-        ])?;
-        file.extend_from_slice(body)?;
+        push_entry(&mut file, body)?;
     }
     file.push(0)?;
     Ok((file, gate))
@@ -185,7 +211,7 @@ fn a_further_entry_is_refused_at_its_gate(rt: HostRuntime) -> Result<(), Fail> {
 }
 
 // What is said of a table: its front, how many of its numbers are gaps, and what its stop told.
-fn said(archive: &Archive, id: u16) -> Option<(u32, u32, Option<Stop>)> {
+pub(crate) fn said(archive: &Archive, id: u16) -> Option<(u32, u32, Option<Stop>)> {
     let table = archive.table(TableId(id))?;
     Some((table.front.0, table.gaps, table.stop))
 }

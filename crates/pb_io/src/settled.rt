@@ -3,7 +3,7 @@ ghost use Rattle.std.specs.Prelude.{◌+◌, ◌≤◌, max, length, take, OnOk}
 ghost use Rattle.std.specs.Option.{ForSome};
 ghost use Rattle.pb_io.specs.Crash.{max_file_len, overlaid, overlaid_twice, Torn, Shortened, Changes};
 ghost use Rattle.pb_io.specs.Faults.{HasCause};
-ghost use Rattle.pb_io.specs.Settled.{IsMapped, IsSettled, Runs, RunsInOrder};
+ghost use Rattle.pb_io.specs.Settled.{IsMapped, IsSettled, Runs, RunsInOrder, TornInOrder};
 
 use crate::{Disk, Failed};
 
@@ -52,6 +52,8 @@ pub fn write_in_order<D: Disk>(
     ensures written { OnOk result
         (IsMapped (overlaid_twice first_at first.now second_at second.now) (D.view disk.old) (D.view disk.new)) }
     ensures settled { OnOk result (IsSettled (D.view disk.new)) }
+    ensures file { Changes (TornInOrder first_at first.now second_at (length second.now))
+        (D.view disk.old).file (D.view disk.new).file }
     ensures run { RunsInOrder first_at first.now second_at (length second.now) (D.view disk.old) (D.view disk.new) }
     ensures cause { HasCause (D.view disk.old).faults (D.view disk.new).faults result }
 {

@@ -1,19 +1,20 @@
 -- What a crash leaves while an entry is added.
 use Rattle.std.proofs.Common.{◌≡◌, inl, inr, ℕ, ◌+◌, ◌≤◌, ◌<◌, List, [], ◌∷◌, ◌++◌, length, take, drop, get_or, Some, refl, sym, ◌∙◌, ap, subst, arith, length-append, append_assoc, take-append-drop}
 use Rattle.pb_io.proofs.RunLemmas.{world_before}
-use Rattle.std.specs.Option.{option_map}
+use Rattle.std.specs.Option.{ForSome, option_map}
+use Rattle.std.specs.Prelude.{Option}
 use Rattle.std.proofs.lemmas.Bool.{cases_eq}
 use Rattle.std.proofs.lemmas.List.{take_all}
 use Rattle.pb_base.specs.World.{World}
 use Rattle.pb_io.specs.Crash.{Torn, overlaid, Changes}
 use Rattle.pb_io.specs.Settled.{LeftBy, Runs}
 use Rattle.pb_io.specs.View.{View, IsLawful, LeavesOnly}
-use Rattle.pb_io.proofs.CrashLemmas.{known_before}
+use Rattle.pb_io.proofs.CrashLemmas.{known_before, Changes-mapped, Changes-trans, Changes-weaker}
 use Rattle.pb_io.proofs.Moments.{LeavesOnly-trans, LeavesOnly-weaker}
 use Rattle.pb_journal.specs.Changes.{SameEntries, Gains, KeepsOrGains}
 use Rattle.pb_journal.specs.Entries.{max_body_len, open_gate, header, IsBody, AreBodies, block, blocks, at_rest}
 use Rattle.pb_journal.specs.Inside.{KeepsBefore, staged}
-use Rattle.pb_journal.specs.Opened.{RestsAt, IsOpened}
+use Rattle.pb_journal.specs.Opened.{Rests, RestsAt, IsOpened}
 use Rattle.pb_journal.proofs.EntryLemmas.{blocks-push, AreBodies-push, gate_place-push, entries_closed, rests_entries, length-at_rest, torn_one, overlaid_one}
 
 pub joined_body : (head rest : List ℕ) → 0 < length head → length head + length rest ≤ max_body_len → IsBody (head ++ rest)
@@ -66,6 +67,19 @@ module _ (gate : ℕ) (bodies : List (List ℕ)) (file : List ℕ) (rests : Rest
       fit = fit_now;
       place = omega (arith, rests.place, gate_place-push bodies body);
     }
+
+-- the file as it reads after each of the two calls, also where they fail
+module _ (gate : ℕ) (body : List ℕ) (is : IsBody body) (a : Option (List ℕ)) (rests : ForSome a (Rests gate)) where
+  pub staged_file : (b : Option (List ℕ)) → Changes (KeepsBefore (gate + 1)) a b → Changes (KeepsOrGains body) a b
+  staged_file b =
+      Changes-weaker (KeepsBefore (gate + 1)) (KeepsOrGains body) a b
+      (λ f c known same. let r = rests f known in inl (inr (after_same gate r.0 f r.1 c same)))
+
+  pub gated_file : (b c : Option (List ℕ)) → b ≡ option_map (staged body) a → Changes (Torn gate 1) b c → Changes (KeepsOrGains body) a c
+  gated_file b c written =
+      Changes-trans (λ f m. m ≡ staged body f) (Torn gate 1) (KeepsOrGains body) a b c
+      (λ f m g known now at torn. let r = rests f known in torn_gate gate r.0 f r.1 body is g (subst (λ l. Torn gate 1 l g) at torn))
+      (Changes-mapped (staged body) a b written)
 
 module _ (gate : ℕ) (body : List ℕ) (is : IsBody body) (old mid : View) (lawful : IsLawful old) (opened : IsOpened gate old) where
   rests_of : (c : List ℕ) → old.image c → (bodies : List (List ℕ)) × RestsAt gate bodies c

@@ -2,13 +2,14 @@
 use Rattle.std.proofs.Common.{◌≡◌, ◌⊎◌, inl, inr, ⊎_elim, ℕ, ◌≤◌, List, [], ◌∷◌, length, get_or, Some, refl, sym, ◌∙◌, ap, subst, arith}
 use Rattle.pb_io.proofs.RunLemmas.{Runs-trans, Runs-weaker, world_before}
 use Rattle.std.specs.Option.{ForSome, option_map}
+use Rattle.std.specs.Prelude.{Option}
 use Rattle.std.proofs.lemmas.Bool.{cases_eq, cases_lt}
 use Rattle.std.proofs.lemmas.List.{drop_all, get_or-take}
 use Rattle.pb_base.specs.World.{World}
 use Rattle.pb_io.specs.Crash.{Torn, overlaid, overlaid_twice, Changes}
-use Rattle.pb_io.specs.Settled.{InOrder, LeftBy, Runs}
+use Rattle.pb_io.specs.Settled.{InOrder, LeftBy, Runs, TornInOrder}
 use Rattle.pb_io.specs.View.{View, IsLawful, LeavesOnly}
-use Rattle.pb_io.proofs.CrashLemmas.{known_before, Torn-no_longer}
+use Rattle.pb_io.proofs.CrashLemmas.{known_before, Torn-no_longer, Changes-mapped, Changes-trans}
 use Rattle.pb_io.proofs.Moments.{LeavesOnly-trans, LeavesOnly-weaker}
 use Rattle.pb_journal.specs.Changes.{KeepsOrBegins, Same}
 use Rattle.pb_journal.specs.Entries.{first_byte, Entries}
@@ -42,6 +43,28 @@ torn_last c torn =
     let g = get_or c 0 0 in
     let whole : c ≡ g ∷ after_first = torn_one [] after_first 0 0 c refl torn in
     ⊎_elim (λ is. inr (entries_closed c [] 0 [] tt (inr refl) (whole ∙ ap (λ (k : ℕ). k ∷ after_first) is))) (λ other. inl (inr (ap length whole, other))) (cases_eq g first_byte)
+
+-- the file as it reads after each of the last two calls, also where they fail
+module _ (a b c : Option (List ℕ)) (vacant : ForSome a IsVacant) (looked : b ≡ a) (cut : Changes (λ f g. length g ≤ 1) b c) where
+  cut_first : Changes (λ f g. length g ≤ 1) a c
+  cut_first = subst (λ (o : Option (List ℕ)). Changes (λ f g. length g ≤ 1) o c) looked cut
+
+  torn_both : (m g : List ℕ) → length m ≤ 1 → TornInOrder 0 (0 ∷ []) 1 8 m g → IsVacant g
+  torn_both m g short (inl torn) = torn_first m g short torn
+  torn_both m g short (inr torn) = torn_second g (subst (λ l. Torn 1 8 l g) (blank_bytes m short) torn)
+
+  pub written_file : (d : Option (List ℕ)) → Changes (TornInOrder 0 (0 ∷ []) 1 8) c d → Changes KeepsOrBegins a d
+  written_file d =
+      Changes-trans (λ f g. length g ≤ 1) (TornInOrder 0 (0 ∷ []) 1 8) KeepsOrBegins a c d
+      (λ f m g is now short torn. inr (vacant f is, inl (torn_both m g short torn))) cut_first
+
+  pub begun_file : (d e : Option (List ℕ)) → d ≡ option_map (overlaid_twice 0 (0 ∷ []) 1 after_first) c → Changes (Torn 0 1) d e → Changes KeepsOrBegins a e
+  begun_file d e written =
+      Changes-trans (λ f m. m ≡ 0 ∷ after_first) (Torn 0 1) KeepsOrBegins a d e
+      (λ f m g is now at torn. inr (vacant f is, torn_last g (subst (λ l. Torn 0 1 l g) at torn)))
+      (Changes-trans (λ f g. length g ≤ 1) (λ m g. g ≡ overlaid_twice 0 (0 ∷ []) 1 after_first m) (λ f m. m ≡ 0 ∷ after_first) a c d
+      (λ f m g is now short at. at ∙ ap (λ (l : List ℕ). overlaid l 1 after_first) (blank_bytes m short)) cut_first
+      (Changes-mapped (overlaid_twice 0 (0 ∷ []) 1 after_first) c d written))
 
 module _ (old looked short : View) (lawful : IsLawful old) (vacant : ForSome old.file IsVacant) (peeks : Peeks old looked) (run : Runs StaysVacant looked short) where
   abbrev P : World → List ℕ → Type 0

@@ -1,18 +1,19 @@
 -- What a crash leaves while a file's end is closed.
 use Rattle.std.proofs.Common.{◌≡◌, inl, inr, ⊎_elim, ℕ, ◌+◌, ◌≤◌, List, [], ◌∷◌, ◌++◌, length, take, drop, get_or, Some, refl, sym, ◌∙◌, ap, subst, arith, length-append, append_assoc, take-append-drop}
+use Rattle.std.specs.Prelude.{Option}
 use Rattle.pb_io.specs.Settled.{Runs}
 use Rattle.pb_io.proofs.RunLemmas.{Runs-trans, Runs-weaker}
 use Rattle.std.specs.Option.{ForSome, option_map}
 use Rattle.std.proofs.lemmas.List.{take_at, drop_all}
 use Rattle.pb_io.specs.Crash.{Torn, Shortened, overlaid, Changes}
 use Rattle.pb_io.specs.View.{View}
-use Rattle.pb_io.proofs.CrashLemmas.{known_before}
+use Rattle.pb_io.proofs.CrashLemmas.{known_before, Changes-mapped, Changes-trans, Changes-weaker}
 use Rattle.pb_journal.specs.Changes.{SameEntries, Keeps}
 use Rattle.pb_journal.specs.Entries.{header, blocks, Entries}
 use Rattle.pb_journal.specs.Inside.{EndsAt}
 use Rattle.pb_journal.specs.Opened.{RestsAt, IsOpened}
 use Rattle.pb_journal.proofs.EntryLemmas.{entries_closed, rests_entries, torn_one, overlaid_one}
-use Rattle.pb_journal.proofs.LawLemmas.{Keeps-trans}
+use Rattle.pb_journal.proofs.LawLemmas.{Keeps-trans, SameEntries-trans}
 
 module _ (gate : ℕ) (f : List ℕ) (ends : EndsAt gate f) where
   abbrev bodies : List (List ℕ)
@@ -75,6 +76,19 @@ module _ (gate : ℕ) (f : List ℕ) (ends : EndsAt gate f) where
     fit = ends.entries.fit;
     place = ends.place;
   }
+
+-- the file as it reads after each of the two calls, also where they fail
+module _ (gate : ℕ) (a : Option (List ℕ)) (ends : ForSome a (EndsAt gate)) where
+  pub cut_file : (b : Option (List ℕ)) → Changes (Shortened (gate + 1)) a b → Changes Keeps a b
+  cut_file b = Changes-weaker (Shortened (gate + 1)) Keeps a b (λ f g is cut. inr (cut_same gate f (ends f is) g cut))
+
+  pub shut_file : (b c : Option (List ℕ)) → b ≡ option_map (take (gate + 1)) a → Changes (Torn gate 1) b c → Changes Keeps a c
+  shut_file b c cut =
+      Changes-trans (λ f m. m ≡ take (gate + 1) f) (Torn gate 1) Keeps a b c
+      (λ f m g is known at torn.
+      let e = ends f is in
+      inr (SameEntries-trans f (take (gate + 1) f) g (shut_same gate f e) (torn_same gate f e g (subst (λ l. Torn gate 1 l g) at torn))))
+      (Changes-mapped (take (gate + 1)) a b cut)
 
 module _ (gate : ℕ) (old one : View) (ends : ForSome old.file (EndsAt gate)) (settled : (c : List ℕ) → old.image c → old.file ≡ Some c) where
   pub cut_run : Runs (Shortened (gate + 1)) old one → Runs Keeps old one

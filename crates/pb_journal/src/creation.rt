@@ -37,6 +37,7 @@ fn shorten<D: Disk>(disk: &mut D) -> Result<(), Failed>
     requires vacant { ForSome (D.view disk.old).file IsVacant }
     ensures short { OnOk result (Changes (λ f g. length g ≤ 1) (D.view disk.old).file (D.view disk.new).file) }
     ensures settled { OnOk result (IsSettled (D.view disk.new)) }
+    ensures file { Changes StaysVacant (D.view disk.old).file (D.view disk.new).file }
     ensures run { Runs StaysVacant (D.view disk.old) (D.view disk.new) }
     ensures cause { HasCause (D.view disk.old).faults (D.view disk.new).faults result }
 {
@@ -50,10 +51,12 @@ fn shorten<D: Disk>(disk: &mut D) -> Result<(), Failed>
 }
 
 /// Makes a journal without entries. At any moment of it a crash leaves a file as it might have left it before, or one
-/// that holds no journal, or the new journal. `Exists` comes before anything is changed.
+/// that holds no journal, or the new journal. So does a call that fails: a journal that was there reads as it did.
+/// `Exists` comes before anything is changed.
 pub fn create<D: Disk>(disk: &mut D) -> Result<(), JournalFault>
     ensures begun { OnOk result (Changes Begins (D.view disk.old).file (D.view disk.new).file) }
     ensures settled { OnOk result (IsSettled (D.view disk.new)) }
+    ensures file { Changes KeepsOrBegins (D.view disk.old).file (D.view disk.new).file }
     ensures leaves { Leaves KeepsOrBegins (D.view disk.old) (D.view disk.new) }
     ensures refused { IfErr result (CreateRefuses (D.view disk.old).file) }
     ensures unchanged { IfErr result (KeepsFile (D.view disk.old) (D.view disk.new)) }

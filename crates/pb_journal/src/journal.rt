@@ -52,7 +52,7 @@ impl Journal {
     }
 
     /// Adds an entry, whose body is `head` and then `rest`. Once it has answered Ok, a crash leaves the new entry; a
-    /// crash at any moment of it leaves the old entries, with the new one or without.
+    /// crash at any moment of it leaves the old entries, with the new one or without, and so does a call that fails.
     ///
     /// The body has 1 to 65,535 bytes, `head` isn't empty, and the file is the one that was opened. After a
     /// `DiskFault` the journal must be opened again, and each further call answers `MustReopen` and does nothing.
@@ -68,6 +68,7 @@ impl Journal {
 
         ensures added { OnOk result (Changes (Gains (head.now ++ rest.now)) (D.view disk.old).file (D.view disk.new).file) }
         ensures opened { OnOk result (IsOpened self.new.gate (D.view disk.new)) }
+        ensures file { Changes (KeepsOrGains (head.now ++ rest.now)) (D.view disk.old).file (D.view disk.new).file }
         ensures leaves { Leaves (KeepsOrGains (head.now ++ rest.now)) (D.view disk.old) (D.view disk.new) }
         ensures refused { IfErr result (AppendRefuses self.old.must_reopen) }
         ensures must_reopen { self.new.must_reopen ≡ (self.old.must_reopen || is_err result) }

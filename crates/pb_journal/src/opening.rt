@@ -151,6 +151,7 @@ fn close_end<D: Disk>(disk: &mut D, end: End) -> Result<(), Failed>
     requires settled { IsSettled (D.view disk.old) }
     ensures same { OnOk result (Changes SameEntries (D.view disk.old).file (D.view disk.new).file) }
     ensures opened { OnOk result (IsOpened end.gate (D.view disk.new)) }
+    ensures file { Changes Keeps (D.view disk.old).file (D.view disk.new).file }
     ensures run { Runs Keeps (D.view disk.old) (D.view disk.new) }
     ensures cause { HasCause (D.view disk.old).faults (D.view disk.new).faults result }
 {
@@ -165,12 +166,13 @@ impl Journal {
     /// Opens the journal in a file, and recovers its end where that isn't a gate of 00 and the last byte. Takes memory:
     /// 65,536 bytes, through which the file is read, while it runs.
     ///
-    /// At any moment of it a crash leaves a file with the entries of one that it might have left before. Once it has
-    /// answered Ok, nothing is pending.
+    /// At any moment of it a crash leaves a file with the entries of one that it might have left before, and whatever it
+    /// answers, the file has the entries that it had. Once it has answered Ok, nothing is pending.
     pub fn open<D: Disk>(alloc: Global, disk: &mut D) -> Result<Journal, JournalFault>
         ensures same { OnOk result (Changes SameEntries (D.view disk.old).file (D.view disk.new).file) }
         ensures opened { IfOk result (λ journal. IsOpened journal.gate (D.view disk.new)) }
         ensures usable { IfOk result (λ journal. journal.must_reopen ≡ false) }
+        ensures file { Changes Keeps (D.view disk.old).file (D.view disk.new).file }
         ensures leaves { Leaves Keeps (D.view disk.old) (D.view disk.new) }
         ensures refused { IfErr result (OpenRefuses (D.view disk.old).file) }
         ensures unchanged { IfErr result (KeepsFile (D.view disk.old) (D.view disk.new)) }

@@ -18,6 +18,7 @@ pub(crate) fn recover<D: Disk>(disk: &mut D, gate: u64) -> Result<(), Failed>
     requires settled { IsSettled (D.view disk.old) }
     ensures same { OnOk result (Changes SameEntries (D.view disk.old).file (D.view disk.new).file) }
     ensures opened { OnOk result (IsOpened gate (D.view disk.new)) }
+    ensures file { Changes Keeps (D.view disk.old).file (D.view disk.new).file }
     ensures run { Runs Keeps (D.view disk.old) (D.view disk.new) }
     ensures cause { HasCause (D.view disk.old).faults (D.view disk.new).faults result }
 {

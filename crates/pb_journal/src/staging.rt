@@ -22,6 +22,7 @@ fn put<D: Disk>(disk: &mut D, at: u64, bytes: &[u8]) -> Result<(), Failed>
     requires low { at ≤ max_file_len }
     ensures written { OnOk result (IsMapped (λ f. f ++ bytes.now) (D.view disk.old) (D.view disk.new)) }
     ensures bound { OnOk result (at + length bytes.now ≤ max_file_len) }
+    ensures file { Changes (KeepsBefore at) (D.view disk.old).file (D.view disk.new).file }
     ensures run { Runs (KeepsBefore at) (D.view disk.old) (D.view disk.new) }
     ensures cause { HasCause (D.view disk.old).faults (D.view disk.new).faults result }
 {
@@ -39,6 +40,7 @@ fn put_both<D: Disk>(disk: &mut D, at: u64, first: &[u8], second: &[u8]) -> Resu
     requires few { length first.now + length second.now < max_file_len }
     ensures written { OnOk result (IsMapped (λ f. f ++ (first.now ++ second.now)) (D.view disk.old) (D.view disk.new)) }
     ensures bound { OnOk result (at + (length first.now + length second.now) ≤ max_file_len) }
+    ensures file { Changes (KeepsBefore at) (D.view disk.old).file (D.view disk.new).file }
     ensures run { Runs (KeepsBefore at) (D.view disk.old) (D.view disk.new) }
     ensures cause { HasCause (D.view disk.old).faults (D.view disk.new).faults result }
 {
@@ -55,6 +57,7 @@ fn stage<D: Disk>(disk: &mut D, at: u64, head: &[u8], rest: &[u8]) -> Result<(),
     ensures written { OnOk result (IsMapped (staged (head.now ++ rest.now)) (D.view disk.old) (D.view disk.new)) }
     ensures settled { OnOk result (IsSettled (D.view disk.new)) }
     ensures bound { OnOk result (at + 4 + (length head.now + length rest.now) < max_file_len) }
+    ensures file { Changes (KeepsBefore at) (D.view disk.old).file (D.view disk.new).file }
     ensures run { Runs (KeepsBefore at) (D.view disk.old) (D.view disk.new) }
     ensures cause { HasCause (D.view disk.old).faults (D.view disk.new).faults result }
 {
@@ -79,6 +82,7 @@ pub(crate) fn add_entry<D: Disk>(
     ensures added { OnOk result (Changes (Gains (head.now ++ rest.now)) (D.view disk.old).file (D.view disk.new).file) }
     ensures opened { OnOk result (IsOpened (gate + (lead_len + (length head.now + length rest.now))) (D.view disk.new)) }
     ensures bound { OnOk result (gate + (lead_len + (length head.now + length rest.now)) < max_file_len) }
+    ensures file { Changes (KeepsOrGains (head.now ++ rest.now)) (D.view disk.old).file (D.view disk.new).file }
     ensures leaves { Leaves (KeepsOrGains (head.now ++ rest.now)) (D.view disk.old) (D.view disk.new) }
     ensures link { (D.view disk.new).link ≡ (D.view disk.old).link }
     ensures cause { HasCause (D.view disk.old).faults (D.view disk.new).faults result }

@@ -13,7 +13,7 @@ use crate::ctrl_answers::fault_code;
 use crate::device::Device;
 use crate::files::{DENIED, NO_FILE};
 use crate::refusing::{
-    NO_TIME, refuse_clock, refuse_collect, refuse_download, refuse_stats, refuse_upload,
+    NO_TIME, clock_refusal, collect_refusal, download_refusal, stats_refusal, upload_refusal,
 };
 use crate::reply::{PACKET_MAX, fail, reply_bmp5};
 use crate::settings::VERSION;
@@ -152,7 +152,7 @@ impl Device {
         ensures within { FitsPacket result }
     {
         if self.is_wrong(code) {
-            return refuse_collect(self.address(), header, tran, DENIED, out);
+            return reply_bmp5(self.address(), header, &collect_refusal(tran, DENIED), out);
         }
         let mut body = [0; BODY_MAX];
         match collect(tables, asked, &mut body) {
@@ -164,7 +164,7 @@ impl Device {
                 };
                 reply_bmp5(self.address(), header, &reply, out)
             }
-            Err(resp) => refuse_collect(self.address(), header, tran, resp, out),
+            Err(resp) => reply_bmp5(self.address(), header, &collect_refusal(tran, resp), out),
         }
     }
 
@@ -181,10 +181,15 @@ impl Device {
         ensures within { FitsPacket result }
     {
         if self.is_wrong(code) {
-            return refuse_clock(self.address(), header, tran, DENIED, out);
+            return reply_bmp5(self.address(), header, &clock_refusal(tran, DENIED), out);
         }
         let Some(time) = self.adjust_clock(adjust) else {
-            return refuse_clock(self.address(), header, tran, OUT_OF_RANGE, out);
+            return reply_bmp5(
+                self.address(),
+                header,
+                &clock_refusal(tran, OUT_OF_RANGE),
+                out,
+            );
         };
         let reply = Bmp5::ClockReply {
             tran,
@@ -206,7 +211,7 @@ impl Device {
         ensures within { FitsPacket result }
     {
         if self.is_wrong(code) {
-            return refuse_stats(self.address(), header, tran, out);
+            return reply_bmp5(self.address(), header, &stats_refusal(tran), out);
         }
         let mut digits = Buffer::new();
         let reply = Bmp5::StatsReply {
@@ -238,11 +243,11 @@ impl Device {
         ensures within { FitsPacket result }
     {
         if self.is_wrong(code) {
-            return refuse_download(self.address(), header, tran, DENIED, out);
+            return reply_bmp5(self.address(), header, &download_refusal(tran, DENIED), out);
         }
         let resp = self.download(part.name, part.offset, part.bytes);
         if resp != 0 {
-            return refuse_download(self.address(), header, tran, resp, out);
+            return reply_bmp5(self.address(), header, &download_refusal(tran, resp), out);
         }
         let reply = Bmp5::DownloadReply {
             tran,
@@ -265,10 +270,10 @@ impl Device {
         ensures within { FitsPacket result }
     {
         if self.is_wrong(code) {
-            return refuse_upload(self.address(), header, tran, DENIED, out);
+            return reply_bmp5(self.address(), header, &upload_refusal(tran, DENIED), out);
         }
         let Some(bytes) = self.file_of(wanted.name) else {
-            return refuse_upload(self.address(), header, tran, NO_FILE, out);
+            return reply_bmp5(self.address(), header, &upload_refusal(tran, NO_FILE), out);
         };
         let reply = Bmp5::UploadReply {
             tran,

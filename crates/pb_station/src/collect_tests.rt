@@ -169,6 +169,7 @@ fn records_of_intervals_have_one_time(rt: HostRuntime) -> Result<(), Fail> {
 /// A station with so many records of one text of so many bytes, and the table's signature.
 fn texts(alloc: Global, dimension: u16, records: u8) -> Option<(Station, u16)> {
     let mut file = *TEXTS;
+    file[6] = 20;
     file[37..39].copy_from_slice(&dimension.to_be_bytes());
     let mut station = station(alloc, 0, &file)?;
     let bytes = [b'x'; 1024];
@@ -261,5 +262,100 @@ fn long_records_are_sent_in_parts(rt: HostRuntime) -> Result<(), Fail> {
         ),
     ];
     assert_eq!(rt; all_say(&mut station, &BMP5_HEAD, &cases), true);
+    Ok(())
+}
+
+#[test]
+fn an_overwritten_ring_is_collected(rt: HostRuntime) -> Result<(), Fail> {
+    let mut station = station(rt.alloc(), 0, EVENTS).ok_or("a station")?;
+    assert_eq!(rt; put_events(&mut station, 0, 12), true);
+    let held =
+        b"\x89\x01\x00\x00\x01\x00\x00\x00\x02\x00\x0A\x00\x00\x00\x02\x00\x00\x00\x00\x40\x02\x00\x00\x00\x03\x00\x00\x00\x00\x40\x03\x00\x00\x00\x04\x00\x00\x00\x00\x40\x04\x00\x00\x00\x05\x00\x00\x00\x00\x40\x05\x00\x00\x00\x06\x00\x00\x00\x00\x40\x06\x00\x00\x00\x07\x00\x00\x00\x00\x40\x07\x00\x00\x00\x08\x00\x00\x00\x00\x40\x08\x00\x00\x00\x09\x00\x00\x00\x00\x40\x09\x00\x00\x00\x0A\x00\x00\x00\x00\x40\x0A\x00\x00\x00\x0B\x00\x00\x00\x00\x40\x0B\x00";
+    // Of twelve records the first two are gone: all, those from a number on that is gone, the newest one and more than there
+    // are, those of a range of times that begins before the oldest, and of one that ends there.
+    let cases: [Case; 7] = [
+        (1, b"\x09\x01\x00\x00\x03\x00\x01\x8A\x5F\x00\x00", held),
+        (
+            1,
+            b"\x09\x01\x00\x00\x04\x00\x01\x8A\x5F\x00\x00\x00\x01\x00\x00",
+            held,
+        ),
+        (
+            1,
+            b"\x09\x01\x00\x00\x04\x00\x01\x8A\x5F\x00\x00\x00\x0B\x00\x00",
+            b"\x89\x01\x00\x00\x01\x00\x00\x00\x0B\x00\x01\x00\x00\x00\x0B\x00\x00\x00\x00\x40\x0B\x00",
+        ),
+        (
+            1,
+            b"\x09\x01\x00\x00\x05\x00\x01\x8A\x5F\x00\x00\x00\x0D\x00\x00",
+            held,
+        ),
+        (
+            1,
+            b"\x09\x01\x00\x00\x07\x00\x01\x8A\x5F\x00\x00\x00\x00\x00\x00\x00\x00\x00\x00\x00\x04\x00\x00\x00\x00\x00\x00",
+            b"\x89\x01\x00\x00\x01\x00\x00\x00\x02\x00\x02\x00\x00\x00\x02\x00\x00\x00\x00\x40\x02\x00\x00\x00\x03\x00\x00\x00\x00\x40\x03\x00",
+        ),
+        (
+            1,
+            b"\x09\x01\x00\x00\x07\x00\x01\x8A\x5F\x00\x00\x00\x00\x00\x00\x00\x00\x00\x00\x00\x02\x00\x00\x00\x00\x00\x00",
+            b"\x89\x01\x00\x00",
+        ),
+        (
+            1,
+            b"\x09\x01\x00\x00\x08\x00\x01\x8A\x5F\x00\x00\x00\x02\x00\x00\x00\x08\x00\x00",
+            b"\x89\x01\x00\x00\x01\x00\x00\x00\x02\x80\x00\x00\x08\x40\x02\x01",
+        ),
+    ];
+    assert_eq!(rt; all_say(&mut station, &BMP5_HEAD, &cases), true);
+    Ok(())
+}
+
+#[test]
+fn records_fill_a_reply(rt: HostRuntime) -> Result<(), Fail> {
+    // Ten contents of 96 bytes fill a reply; of 97 bytes nine have room.
+    let (mut station, sig) = texts(rt.alloc(), 88, 11).ok_or("texts")?;
+    assert_eq!(rt;
+        sent(&mut station, sig, 4, 0, 0),
+        Some((
+            972,
+            *b"\x89\x01\x00\x00\x01\x00\x00\x00\x00\x00\x0A\x00\x00\x00\x00\x00\x00\x00",
+            1
+        ))
+    );
+    assert_eq!(rt;
+        sent(&mut station, sig, 4, 1, 0),
+        Some((
+            972,
+            *b"\x89\x01\x00\x00\x01\x00\x00\x00\x01\x00\x0A\x00\x00\x00\x01\x00\x00\x00",
+            0
+        ))
+    );
+    let (mut station, sig) = texts(rt.alloc(), 89, 11).ok_or("texts")?;
+    assert_eq!(rt;
+        sent(&mut station, sig, 4, 1, 0),
+        Some((
+            885,
+            *b"\x89\x01\x00\x00\x01\x00\x00\x00\x01\x00\x09\x00\x00\x00\x01\x00\x00\x00",
+            1
+        ))
+    );
+    // A content longer than a reply: 1,032 bytes in two parts.
+    let (mut station, sig) = texts(rt.alloc(), 1024, 1).ok_or("texts")?;
+    assert_eq!(rt;
+        sent(&mut station, sig, 4, 0, 0),
+        Some((
+            974,
+            *b"\x89\x01\x00\x00\x01\x00\x00\x00\x00\x80\x00\x00\x00\x00\x00\x00\x00\x00",
+            1
+        ))
+    );
+    assert_eq!(rt;
+        sent(&mut station, sig, 8, 0, 960),
+        Some((
+            86,
+            *b"\x89\x01\x00\x00\x01\x00\x00\x00\x00\x80\x00\x03\xC0xxxxx",
+            0
+        ))
+    );
     Ok(())
 }

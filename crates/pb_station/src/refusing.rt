@@ -1,66 +1,45 @@
 //! Refusals of BMP5 commands: replies that end after their response code.
-ghost use Rattle.std.specs.Prelude.{◌≡◌, ◌<◌, [], ℕ};
-ghost use Rattle.pb_bmp5.specs.Message.{CollectReply, ClockReply, StatsReply, DownloadReply, UploadReply, no_time, no_stats};
-ghost use Rattle.pb_station.specs.Answer.{FitsPacket, Replies, bmp5_packet, denied};
+ghost use Rattle.std.specs.Prelude.{◌≡◌, ◌<◌, []};
+ghost use Rattle.pb_bmp5.specs.Message.{message_of, CollectReply, ClockReply, StatsReply, DownloadReply, UploadReply, no_time, no_stats};
+ghost use Rattle.pb_station.specs.Answer.{denied};
+ghost use Rattle.pb_station.specs.Inside.Answered.{FitsReply};
 
 use crate::files::DENIED;
-use crate::reply::{PACKET_MAX, reply_bmp5};
-use crate::station::Answered;
-use pb_base::{NodeId, Nsec};
+use pb_base::Nsec;
 use pb_bmp5::Bmp5;
-use pb_packet::Header;
 
 /// The time in a reply that has none.
 pub(crate) const NO_TIME: Nsec = Nsec { sec: 0, nano: 0 };
 
-pub(crate) fn refuse_collect(
-    address: NodeId,
-    header: &Header,
-    tran: u8,
-    resp: u8,
-    out: &mut [u8; PACKET_MAX],
-) -> Answered
+pub(crate) fn collect_refusal(tran: u8, resp: u8) -> Bmp5<'static>
     requires { 0 < resp }
-    ensures answered { Replies (bmp5_packet address header.now (CollectReply tran resp [])) out.old out.new result }
-    ensures within { FitsPacket result }
+    ensures says { message_of result ≡ CollectReply tran resp [] }
+    ensures fits { FitsReply (message_of result) }
 {
-    let refusal = Bmp5::CollectReply {
+    Bmp5::CollectReply {
         tran,
         resp,
         bytes: &[],
-    };
-    reply_bmp5(address, header, &refusal, out)
+    }
 }
 
-pub(crate) fn refuse_clock(
-    address: NodeId,
-    header: &Header,
-    tran: u8,
-    resp: u8,
-    out: &mut [u8; PACKET_MAX],
-) -> Answered
+pub(crate) fn clock_refusal(tran: u8, resp: u8) -> Bmp5<'static>
     requires { 0 < resp }
-    ensures answered { Replies (bmp5_packet address header.now (ClockReply tran resp no_time)) out.old out.new result }
-    ensures within { FitsPacket result }
+    ensures says { message_of result ≡ ClockReply tran resp no_time }
+    ensures fits { FitsReply (message_of result) }
 {
-    let refusal = Bmp5::ClockReply {
+    Bmp5::ClockReply {
         tran,
         resp,
         time: NO_TIME,
-    };
-    reply_bmp5(address, header, &refusal, out)
+    }
 }
 
-pub(crate) fn refuse_stats(
-    address: NodeId,
-    header: &Header,
-    tran: u8,
-    out: &mut [u8; PACKET_MAX],
-) -> Answered
-    ensures answered { Replies (bmp5_packet address header.now (StatsReply tran denied no_stats)) out.old out.new result }
-    ensures within { FitsPacket result }
+pub(crate) fn stats_refusal(tran: u8) -> Bmp5<'static>
+    ensures says { message_of result ≡ StatsReply tran denied no_stats }
+    ensures fits { FitsReply (message_of result) }
 {
-    let refusal = Bmp5::StatsReply {
+    Bmp5::StatsReply {
         tran,
         resp: DENIED,
         osver: &[],
@@ -72,45 +51,30 @@ pub(crate) fn refuse_stats(
         progsig: 0,
         time: NO_TIME,
         result: &[],
-    };
-    reply_bmp5(address, header, &refusal, out)
+    }
 }
 
-pub(crate) fn refuse_download(
-    address: NodeId,
-    header: &Header,
-    tran: u8,
-    resp: u8,
-    out: &mut [u8; PACKET_MAX],
-) -> Answered
+pub(crate) fn download_refusal(tran: u8, resp: u8) -> Bmp5<'static>
     requires { 0 < resp }
-    ensures answered { Replies (bmp5_packet address header.now (DownloadReply tran resp 0)) out.old out.new result }
-    ensures within { FitsPacket result }
+    ensures says { message_of result ≡ DownloadReply tran resp 0 }
+    ensures fits { FitsReply (message_of result) }
 {
-    let refusal = Bmp5::DownloadReply {
+    Bmp5::DownloadReply {
         tran,
         resp,
         offset: 0,
-    };
-    reply_bmp5(address, header, &refusal, out)
+    }
 }
 
-pub(crate) fn refuse_upload(
-    address: NodeId,
-    header: &Header,
-    tran: u8,
-    resp: u8,
-    out: &mut [u8; PACKET_MAX],
-) -> Answered
+pub(crate) fn upload_refusal(tran: u8, resp: u8) -> Bmp5<'static>
     requires { 0 < resp }
-    ensures answered { Replies (bmp5_packet address header.now (UploadReply tran resp 0 [])) out.old out.new result }
-    ensures within { FitsPacket result }
+    ensures says { message_of result ≡ UploadReply tran resp 0 [] }
+    ensures fits { FitsReply (message_of result) }
 {
-    let refusal = Bmp5::UploadReply {
+    Bmp5::UploadReply {
         tran,
         resp,
         offset: 0,
         bytes: &[],
-    };
-    reply_bmp5(address, header, &refusal, out)
+    }
 }

@@ -11,9 +11,11 @@ use Rattle.pb_archive.specs.declared.fault.ArchiveFault.{ArchiveFault}
 use Rattle.pb_archive.specs.declared.held.Held.{Held}
 use Rattle.pb_archive.specs.declared.plan.StationPlan.{StationPlan}
 use Rattle.pb_archive.specs.declared.table_view.Stop.{Stop}
+use Rattle.pb_io.specs.Crash.{Changes}
 use Rattle.pb_io.specs.Outside.{Output}
 use Rattle.pb_io.specs.Page.{joined}
 use Rattle.pb_io.specs.View.{View}
+use Rattle.pb_journal.specs.Changes.{Keeps}
 use Rattle.pb_tool.specs.Closing.{Closes}
 use Rattle.pb_tool.specs.Refusal.{refusal_text, refusal_status}
 use Rattle.pb_tool.specs.declared.status.Status.{Status}
@@ -73,8 +75,9 @@ abbrev pub Means : Result Register ArchiveFault → Option (List ℕ) → Type 0
 Means (Ok r) file = ForSome file (IsKeptOf r)
 Means (Err fault) file = OpenRefuses file fault
 
--- the row of `check`
+-- the row of `check`, which leaves the file as it was, or its entries, whatever it answers
 pub record RanCheck (result : Status) (before after : View) (out_before out_after : Output) : Type 0 where
   pub answer : Result Register ArchiveFault
   pub means : Means answer before.file
+  pub file : Changes Keeps before.file after.file
   pub printed : Closes (answer_status answer) result (answer_text answer) out_before.written out_after.written

@@ -1,5 +1,5 @@
 -- What `init` does: the archive of the plan that the input is.
-use Rattle.std.specs.Prelude.{◌≡◌, ◌⊎◌, ⊤, ℕ, ◌≤◌, List, [], Option, Result, Ok, Err}
+use Rattle.std.specs.Prelude.{◌≡◌, ◌⊎◌, ℕ, ◌≤◌, List, [], Option, Result, Ok, Err}
 use Rattle.pb_archive.specs.Creation.{Inits, KeepsOrInits}
 use Rattle.pb_archive.specs.Plan.{Plan, PlanText, RefusedLine}
 use Rattle.pb_archive.specs.Refusals.{InitRefuses}
@@ -59,15 +59,18 @@ pub record RefusesLine (left_old left_new : Option (List ℕ)) (line : ℕ) : Ty
   pub reads : ReadsWhole plan_text_max left_old left_new text
   pub refused : RefusedLine text line
 
--- What an answer means, of the file and of the input.
+-- What an answer means, of the file and of the input. Where the archive is refused, for whatever cause, the file is as it
+-- was, or has its entries; or it had no archive, and has none or the new one. Else it isn't touched.
 abbrev pub Means : Result Unit InitFault → (file_old file_new left_old left_new : Option (List ℕ)) → Type 0
 Means (Ok done) file_old file_new left_old left_new = (plan : Plan) × IsPlanOf left_old left_new plan
     × Changes (Inits plan) file_old file_new
 Means (Err (Input fault)) file_old file_new left_old left_new = InputRefuses plan_text_max left_old left_new fault
-Means (Err (Line n)) file_old file_new left_old left_new = RefusesLine left_old left_new n
-Means (Err (Archive fault)) file_old file_new left_old left_new = ((plan : Plan) × IsPlanOf left_old left_new plan)
+    × (file_new ≡ file_old)
+Means (Err (Line n)) file_old file_new left_old left_new = RefusesLine left_old left_new n × (file_new ≡ file_old)
+Means (Err (Archive fault)) file_old file_new left_old left_new = ((plan : Plan) × IsPlanOf left_old left_new plan
+    × Changes (KeepsOrInits plan) file_old file_new)
     × InitRefuses file_old fault
-Means (Err Memory) file_old file_new left_old left_new = ⊤
+Means (Err Memory) file_old file_new left_old left_new = file_new ≡ file_old
 
 -- What a crash may leave: the disk wasn't touched; or a file with the entries that it had, or, where it had no archive,
 -- none or that of the plan.

@@ -219,14 +219,17 @@ fn refuses_plans_and_files(rt: HostRuntime) -> Result<(), Fail> {
 
 #[test]
 fn refuses_a_plan_that_is_too_long(rt: HostRuntime) -> Result<(), Fail> {
-    let mut spaces = Vec::new(rt.alloc());
-    spaces.resize(16_385, b' ')?;
-    let rows: &[Row] = &[(
-        "init",
-        &spaces,
-        Status::Format,
-        b"pakbus: format at byte 16384\n",
-    )];
+    let most = vec![in rt.alloc(); b' '; 16_384]?;
+    let one_more = vec![in rt.alloc(); b' '; 16_385]?;
+    let rows: &[Row] = &[
+        ("init", &most, Status::Format, b"pakbus: format at line 1\n"),
+        (
+            "init",
+            &one_more,
+            Status::Format,
+            b"pakbus: format at byte 16384\n",
+        ),
+    ];
     assert_eq!(rt; first_wrong(rt.alloc(), &[], &[], rows)?, None);
     Ok(())
 }

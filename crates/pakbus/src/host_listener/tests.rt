@@ -33,12 +33,18 @@ fn takes_one_connection_after_the_other(rt: HostRuntime) -> Result<(), Fail> {
     assert_eq!(rt; link.recv(&mut bytes).ok(), Some(6));
     assert_eq!(rt; bytes, *b"second\0\0");
 
-    // It leaves, and frames for it are lost.
+    // It leaves, and frames for it are lost; then a third one is taken.
     drop(second);
     for _ in 0..4 {
         assert!(rt; link.send(b"gone").is_ok());
     }
     assert_eq!(rt; link.recv(&mut bytes).ok(), Some(0));
+    let mut third = TcpStream::connect(&rt, ("127.0.0.1", port))?;
+    third.write_all(b"third")?;
+    assert_eq!(rt; link.recv(&mut bytes).ok(), Some(5));
+    assert!(rt; link.send(b"answer").is_ok());
+    third.read_exact(&mut bytes[..6])?;
+    assert_eq!(rt; bytes, *b"answer\0\0");
     Ok(())
 }
 

@@ -2,7 +2,7 @@
 ghost use Rattle.std.specs.Prelude.{◌≡◌, ℕ, ◌+◌, ◌≤◌, ◌⊎◌, [], ◌∷◌, ◌++◌, length, codes, decimal};
 ghost use Rattle.pb_frame.specs.Framing.{Whole, Faulty, IsContentSize};
 ghost use Rattle.pb_io.specs.Page.{Adds, joined, printing};
-ghost use Rattle.pb_packet.specs.Packet.{packet_of};
+ghost use Rattle.pb_packet.specs.Packet.{FitsPhys, packet_of};
 ghost use Rattle.pb_tool.specs.PacketText.{state_text, route_text, order_text, phys_text, proto_text, hops_text, nodes_text, header_text, fault_text, content_text, is_damaged_content};
 ghost use Rattle.pb_tool.specs.ShowText.{line, why_text};
 
@@ -88,6 +88,7 @@ fn push_content<O: Sink>(page: &mut Page, content: &[u8], out: &mut O) -> bool
 }
 
 fn push_phys<O: Sink>(page: &mut Page, phys: &Phys, out: &mut O)
+    requires { FitsPhys phys.now }
     ensures { Adds (phys_text phys.now) (printing O.Sink page.old out.old) (printing O.Sink page.new out.new) }
 {
     page.push(state_name(phys.state), out);
@@ -105,12 +106,22 @@ fn push_route<O: Sink>(page: &mut Page, src: u16, dst: u16, out: &mut O)
 }
 
 fn push_order<O: Sink>(page: &mut Page, phys: &Phys, out: &mut O)
+    requires { FitsPhys phys.now }
     ensures { Adds (order_text phys.now) (printing O.Sink page.old out.old) (printing O.Sink page.new out.new) }
 {
-    page.push(b" more ", out);
-    page.push_decimal(u64::from(phys.more), out);
-    page.push(b" pri ", out);
-    page.push_decimal(u64::from(phys.priority), out);
+    page.push(&order(phys), out);
+}
+
+// Both numbers have one digit, so the text is added at once.
+fn order(phys: &Phys) -> [u8; 13]
+    requires { FitsPhys phys.now }
+    ensures { result ≡ order_text phys.now }
+{
+    let more = b'0' + phys.more;
+    let priority = b'0' + phys.priority;
+    [
+        b' ', b'm', b'o', b'r', b'e', b' ', more, b' ', b'p', b'r', b'i', b' ', priority,
+    ]
 }
 
 fn state_name(state: LinkState) -> &'static [u8]
@@ -127,6 +138,7 @@ fn state_name(state: LinkState) -> &'static [u8]
 
 // Adds all words of a header.
 fn push_header<O: Sink>(page: &mut Page, header: &Header, out: &mut O)
+    requires { FitsPhys header.now.phys }
     ensures { Adds (header_text header.now) (printing O.Sink page.old out.old) (printing O.Sink page.new out.new) }
 {
     push_phys(page, &header.phys, out);

@@ -1,5 +1,5 @@
 use Rattle.std.proofs.Common.{◌++◌}
-use Rattle.pb_archive.proofs.WritingLemmas.{writes_by, leaves_made, wrote_by, stands_by}
+use Rattle.pb_archive.proofs.WritingLemmas.{writes_by, file_made, leaves_made, wrote_by, stands_by}
 use Rattle.pb_archive.proofs.writing.write.Goals as goal
 
 pub append-requires-clause-opened : goal.append-requires-clause-opened
@@ -10,11 +10,13 @@ append-requires-clause-opened g c usable = record {
 
 pub returns-in_err-append-clause-writes : goal.returns-in_err-append-clause-writes
 returns-in_err-append-clause-writes g c r change can =
-    writes_by change _ _ c.append.ensures.link (leaves_made change _ _ r c.args.journal.now.gate (c.args.head.now ++ c.args.rest.now) can c.append.ensures.leaves)
+    writes_by change _ _ c.append.ensures.link (file_made change (g.D.Disk.view c.args.disk.now) (g.D.Disk.view c.append.new.disk) r c.args.journal.now.gate (c.args.head.now ++ c.args.rest.now) can c.append.ensures.file)
+    (leaves_made change _ _ r c.args.journal.now.gate (c.args.head.now ++ c.args.rest.now) can c.append.ensures.leaves)
 
 pub returns-clause-writes : goal.returns-clause-writes
 returns-clause-writes g c r change can =
-    writes_by change _ _ c.append.ensures.link (leaves_made change _ _ r c.args.journal.now.gate (c.args.head.now ++ c.args.rest.now) can c.append.ensures.leaves)
+    writes_by change _ _ c.append.ensures.link (file_made change (g.D.Disk.view c.args.disk.now) (g.D.Disk.view c.append.new.disk) r c.args.journal.now.gate (c.args.head.now ++ c.args.rest.now) can c.append.ensures.file)
+    (leaves_made change _ _ r c.args.journal.now.gate (c.args.head.now ++ c.args.rest.now) can c.append.ensures.leaves)
 
 pub returns-clause-wrote : goal.returns-clause-wrote
 returns-clause-wrote g c r change can =

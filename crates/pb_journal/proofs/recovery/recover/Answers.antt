@@ -1,6 +1,6 @@
 use Rattle.std.proofs.Common.{◌≡◌, ◌∙◌, ◌+◌, ℕ, List, Some, length, take, ap, sym, arith, length-take}
 use Rattle.pb_io.proofs.CrashLemmas.{known_before}
-use Rattle.pb_journal.proofs.RecoveryLemmas.{within_end, cut_run, shut_run, file_same, opened}
+use Rattle.pb_journal.proofs.RecoveryLemmas.{within_end, cut_file, shut_file, cut_run, shut_run, file_same, opened}
 use Rattle.pb_journal.proofs.recovery.recover.Goals as goal
 
 pub cut_settled-requires : goal.cut_settled-requires
@@ -12,6 +12,15 @@ write_settled-requires g c x view =
     let was : (f : List ℕ) × ((g.D.Disk.view c.args.disk.now).file ≡ Some f) × (x ≡ take n f) = known_before (take n) _ x (sym c.in_ok-cut_settled.ensures.shortened ∙ view) in
     let size : length x ≡ length (take n was.0) = ap length was.2 in
     omega (arith, within_end c.args.gate was.0 (c.requires.ends was.0 was.1), size, length-take n was.0)
+
+pub returns-in_err-cut_settled-clause-file : goal.returns-in_err-cut_settled-clause-file
+returns-in_err-cut_settled-clause-file g c = cut_file c.args.gate _ c.requires.ends _ c.cut_settled.ensures.file
+
+pub returns-in_err-write_settled-clause-file : goal.returns-in_err-write_settled-clause-file
+returns-in_err-write_settled-clause-file g c = shut_file c.args.gate _ c.requires.ends _ _ c.in_ok-cut_settled.ensures.shortened c.write_settled.ensures.file
+
+pub returns-clause-file : goal.returns-clause-file
+returns-clause-file g c = shut_file c.args.gate _ c.requires.ends _ _ c.in_ok-cut_settled.ensures.shortened c.write_settled.ensures.file
 
 pub returns-in_err-cut_settled-clause-run : goal.returns-in_err-cut_settled-clause-run
 returns-in_err-cut_settled-clause-run g c = cut_run c.args.gate _ _ c.requires.ends c.requires.settled c.cut_settled.ensures.run

@@ -1,6 +1,21 @@
 use Rattle.std.proofs.Common.{arith, length-append}
-use Rattle.pb_journal.proofs.AppendLemmas.{joined_body, staging_leaves, gate_leaves, file_gains, opened_again}
+use Rattle.pb_journal.proofs.AppendLemmas.{joined_body, staged_file, gated_file, staging_leaves, gate_leaves, file_gains, opened_again}
 use Rattle.pb_journal.proofs.staging.add_entry.Goals as goal
+
+pub returns-in_err-stage-clause-file : goal.returns-in_err-stage-clause-file
+returns-in_err-stage-clause-file g c =
+    let is = joined_body c.args.head.now c.args.rest.now c.requires.some c.requires.few in
+    staged_file c.args.gate _ is _ c.requires.opened.rests _ c.stage.ensures.file
+
+pub returns-in_err-write_settled-clause-file : goal.returns-in_err-write_settled-clause-file
+returns-in_err-write_settled-clause-file g c =
+    let is = joined_body c.args.head.now c.args.rest.now c.requires.some c.requires.few in
+    gated_file c.args.gate _ is _ c.requires.opened.rests _ _ c.in_ok-stage.ensures.written c.write_settled.ensures.file
+
+pub returns-clause-file : goal.returns-clause-file
+returns-clause-file g c =
+    let is = joined_body c.args.head.now c.args.rest.now c.requires.some c.requires.few in
+    gated_file c.args.gate _ is _ c.requires.opened.rests _ _ c.in_ok-stage.ensures.written c.write_settled.ensures.file
 
 pub returns-in_err-stage-clause-leaves : goal.returns-in_err-stage-clause-leaves
 returns-in_err-stage-clause-leaves g c =

@@ -14,5 +14,6 @@ returns-clause-ran g c =
     record {
       answer = answer;
       means = means_of c.open-answer.result _ (g.S.Disk.view c.open-answer.new.disk) c.open-answer.ensures.same c.open-answer.ensures.opened c.open-answer.ensures.refused;
+      file = c.open-answer.ensures.file;
       printed = subst (λ (s : Status). Closes s c.finish.result (answer_text answer) (g.O.Sink.written c.args.out.now) (g.O.Sink.written c.finish.new.out)) c.status_of.ensures closes;
     }

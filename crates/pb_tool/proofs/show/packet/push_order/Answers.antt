@@ -1,9 +1,5 @@
-use Rattle.std.proofs.Common.{append_assoc, refl}
-use Rattle.std.proofs.lemmas.List.{append-nil}
-use Rattle.pb_io.proofs.PageLemmas.{Adds-three, Adds-trans}
-use Rattle.pb_tool.specs.PacketText.{order_text}
+use Rattle.pb_io.proofs.PageLemmas.{Adds-as}
 use Rattle.pb_tool.proofs.show.packet.push_order.Goals as goal
 
 pub returns : goal.returns
-unfolding order_text
-returns g c = Adds-three _ _ _ _ _ _ _ _ (simp (c.from.ensures, c.from-2.ensures, append_assoc, append-nil) refl) c.push.ensures c.push_decimal.ensures (Adds-trans _ _ _ _ _ c.push-2.ensures c.push_decimal-2.ensures)
+returns g c = Adds-as _ _ _ _ c.order.ensures c.push.ensures
