@@ -1,4 +1,5 @@
+mod PlainLemmas
 pub mod ColumnsLemmas
-pub mod LineLemmas
 pub mod ExportLemmas
+pub mod LineLemmas
 pub mod RangeLemmas

@@ -1,5 +1,5 @@
 //! The rows of an export, each as it is written.
-ghost use Rattle.std.specs.Prelude.{◌≡◌, ◌∷◌, ◌++◌, ◌<◌, map, OnOk};
+ghost use Rattle.std.specs.Prelude.{◌≡◌, ◌≢◌, ◌∷◌, ◌++◌, ◌<◌, decimal, map, OnOk};
 ghost use Rattle.csv.specs.Writing.{comma, default_writer, field_text, fields_text};
 ghost use Rattle.pb_archive.specs.Rows.{gap, kept, seen_row};
 ghost use Rattle.pb_base.specs.declared.nsec.Nsec as nsec;
@@ -8,6 +8,7 @@ ghost use Rattle.pb_base.specs.Time.{time_bytes, time_of};
 ghost use Rattle.pb_csv.specs.CsvText.{csv_row, header_fields, row_fields, value_field, value_names};
 ghost use Rattle.pb_csv.specs.Inside.{HasNames};
 ghost use Rattle.pb_record.specs.Cut.{seen_record};
+ghost use Rattle.pb_tdf.specs.Kinds.{ascii};
 ghost use Rattle.pb_value.specs.TimeText.{time_text};
 ghost use Rattle.pb_value.specs.Values.{IsRecordOf, values_of};
 ghost use Rattle.pb_value.specs.ValueText.{IsValue, value_text};
@@ -16,11 +17,48 @@ use crate::columns::Columns;
 use crate::field::{push_first, push_next};
 use pb_base::{Nsec, RecNo};
 use pb_record::RecordView;
-use pb_tdf::Table;
+use pb_tdf::{ASCII, Table};
 use pb_value::{ESCAPED_MAX, TIME_TEXT_MAX, VALUE_TEXT_MAX, Value, text_into, time_into, values};
 use std::alloc::{AllocError, Global};
 
-// Adds a value. Its text is made in `scratch`, which grows where it must.
+// Adds a text. It is escaped in `scratch`, which grows where it must.
+fn push_characters(
+    alloc: Global,
+    row: &mut Vec<u8>,
+    scratch: &mut Vec<u8>,
+    value: &Value,
+) -> Result<(), AllocError>
+    requires { value.now.kind ≡ ascii }
+    ensures { OnOk result (row.new.items ≡ row.old.items
+        ++ comma ∷ field_text default_writer (value_text value.now.kind value.now.bytes.now)) }
+{
+    let Some(room) = value.bytes.len().checked_mul(ESCAPED_MAX) else {
+        return Err(AllocError);
+    };
+    if scratch.len() < room {
+        scratch.resize(room, 0)?;
+    }
+    match text_into(value, scratch) {
+        Ok(len) => push_next(alloc, row, &scratch[..len]),
+        Err(_) => unreachable!(),
+    }
+}
+
+// Adds a value that isn't text: none of its bytes calls for quotes.
+fn push_plain(row: &mut Vec<u8>, value: &Value) -> Result<(), AllocError>
+    requires value { IsValue value.now.kind value.now.bytes.now }
+    requires plain { value.now.kind ≢ ascii }
+    ensures { OnOk result (row.new.items ≡ row.old.items
+        ++ comma ∷ field_text default_writer (value_text value.now.kind value.now.bytes.now)) }
+{
+    let mut text = [b','; 1 + VALUE_TEXT_MAX];
+    match text_into(value, &mut text[1..]) {
+        Ok(len) => row.extend_from_slice(&text[..1 + len]),
+        Err(_) => unreachable!(),
+    }
+}
+
+// Adds a value.
 fn push_value(
     alloc: Global,
     row: &mut Vec<u8>,
@@ -31,17 +69,10 @@ fn push_value(
     ensures { OnOk result (row.new.items ≡ row.old.items
         ++ comma ∷ field_text default_writer (value_text value.now.kind value.now.bytes.now)) }
 {
-    let Some(room) = value.bytes.len().checked_mul(ESCAPED_MAX) else {
-        return Err(AllocError);
-    };
-    let room = room.max(VALUE_TEXT_MAX);
-    if scratch.len() < room {
-        scratch.resize(room, 0)?;
+    if value.kind == ASCII {
+        return push_characters(alloc, row, scratch, value);
     }
-    match text_into(value, scratch) {
-        Ok(len) => push_next(alloc, row, &scratch[..len]),
-        Err(_) => unreachable!(),
-    }
+    push_plain(row, value)
 }
 
 // Adds the values of a record.
@@ -63,17 +94,24 @@ fn push_values(
     Ok(())
 }
 
-// Adds a time.
-fn push_time(alloc: Global, row: &mut Vec<u8>, time: Nsec) -> Result<(), AllocError>
+// Adds a time, none of whose bytes calls for quotes.
+fn push_time(row: &mut Vec<u8>, time: Nsec) -> Result<(), AllocError>
     ensures added { OnOk result (row.new.items ≡ row.old.items ++ comma ∷ field_text default_writer (time_text time)) }
     ensures spelled { (rest : _) → time_of (time_bytes time ++ rest) ≡ time }
 {
     is_spelled(time.sec, time.nano);
-    let mut text = [0; TIME_TEXT_MAX];
-    match time_into(time, &mut text) {
-        Ok(len) => push_next(alloc, row, &text[..len]),
+    let mut text = [b','; 1 + TIME_TEXT_MAX];
+    match time_into(time, &mut text[1..]) {
+        Ok(len) => row.extend_from_slice(&text[..1 + len]),
         Err(_) => unreachable!(),
     }
+}
+
+// Adds a number as the first field of a row.
+fn push_number(row: &mut Vec<u8>, number: u32) -> Result<(), AllocError>
+    ensures { OnOk result (row.new.items ≡ row.old.items ++ field_text default_writer (decimal number)) }
+{
+    row.extend_from_slice(itoa::Buffer::new().format(number).as_bytes())
 }
 
 // A time is read back from its bytes, since both of its numbers are signed numbers of four bytes.
@@ -107,12 +145,8 @@ pub(crate) fn kept(
         (kept view.now.number.0 (content (seen_record view.now).stored)))) }
 {
     row.clear();
-    push_first(
-        alloc,
-        row,
-        itoa::Buffer::new().format(view.number.0).as_bytes(),
-    )?;
-    push_time(alloc, row, view.time)?;
+    push_number(row, view.number.0)?;
+    push_time(row, view.time)?;
     push_values(alloc, row, scratch, table, view.bytes)?;
     row.push(b'\n')?;
     Ok(())

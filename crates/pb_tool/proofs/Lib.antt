@@ -2,6 +2,7 @@ mod CauseLemmas
 mod CheckLemmas
 mod ClosingLemmas
 mod CollectLemmas
+mod ExportLemmas
 mod LineLemmas
 mod PingLemmas
 mod PrintLemmas

@@ -1,5 +1,6 @@
 -- A command by what its words say, without where they lie in memory.
 use Rattle.std.specs.Prelude.{ℕ, Option}
+use Rattle.pb_tool.specs.Export.{Asked, asked_by}
 use Rattle.pb_tool.specs.declared.words.Command.{Command}
 use Rattle.pb_tool.specs.declared.words.Command.TheVariants as command
 
@@ -10,6 +11,7 @@ pub data Order : Type 0 where
   Ping : (me node : ℕ) → Order
   Serve : (frames : ℕ) → Order
   Collect : (budget : Option ℕ) → Order
+  Export : (asked : Asked) → Order
 
 abbrev pub order_of : Command → Order
 order_of command.Show = Show
@@ -18,3 +20,4 @@ order_of command.Check = Check
 order_of (command.Ping me node) = Ping me node
 order_of (command.Serve goal) = Serve goal
 order_of (command.Collect budget) = Collect budget
+order_of (command.Export asked) = Export (asked_by asked)

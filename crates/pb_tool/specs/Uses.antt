@@ -10,7 +10,7 @@ use Rattle.pb_io.specs.View.{LeavesOnly}
 use Rattle.pb_journal.specs.Changes.{Keeps}
 use Rattle.pb_io.specs.declared.disk.Disk as disk
 use Rattle.pb_tool.specs.Init.{InitLeaves}
-use Rattle.pb_tool.specs.Order.{Order, Show, Init, Check, Ping, Serve, Collect}
+use Rattle.pb_tool.specs.Order.{Order, Show, Init, Check, Ping, Serve, Collect, Export}
 use Rattle.pb_tool.specs.Ping.{Greets}
 use Rattle.pb_tool.specs.Serve.{ServeLeaves}
 use Rattle.pb_tool.specs.declared.status.Status.{Status}
@@ -29,6 +29,7 @@ uses (Some Check) = record { input = false; disk = true; link = false }
 uses (Some (Ping me node)) = record { input = false; disk = false; link = true }
 uses (Some (Serve frames)) = record { input = true; disk = false; link = true }
 uses (Some (Collect budget)) = record { input = false; disk = true; link = true }
+uses (Some (Export asked)) = record { input = false; disk = true; link = false }
 
 -- What the command doesn't use is as it was.
 pub record Leaves {S I : Type 0} (d : disk.Ghosts S) (u : Uses) (site_old : S) (input_old : I) (site_new : S)
@@ -49,3 +50,4 @@ MayLeave (Some Check) result before after = DiskLeaves Keeps before.site after.s
 MayLeave (Some (Ping me node)) result before after = LeavesOnly before.site after.site (Greets me node before.site)
 MayLeave (Some (Serve frames)) result before after = ServeLeaves before after
 MayLeave (Some (Collect budget)) result before after = CollectKeeps before.site after.site
+MayLeave (Some (Export asked)) result before after = DiskLeaves Keeps before.site after.site

@@ -9,7 +9,7 @@ ghost use Rattle.pb_tool.specs.Words.{IsAllowed, Said};
 
 use crate::closing::close;
 use crate::words::{self, Command};
-use crate::{Status, check, collect, init, ping, serve, show};
+use crate::{Status, check, collect, export, init, ping, serve, show};
 use pb_io::{Sink, Site, Source};
 use std::alloc::Global;
 
@@ -19,7 +19,7 @@ use std::alloc::Global;
 /// `show` reads `input` to its end, and `ping` greets a node over the link of `site`; neither takes memory. `init` makes an
 /// archive of the plan that `input` is, in the file of `site`, and `check` tells what the archive there holds. `serve`
 /// answers on the link of `site` as the station of the script that `input` is. `collect` asks the stations of the archive over
-/// the link of `site`, and keeps what they answer in its file.
+/// the link of `site`, and keeps what they answer in its file. `export` writes the rows of a table of the archive as CSV.
 pub fn run<S: Site, I: Source, O: Sink>(
     alloc: Global,
     words: &[String],
@@ -47,7 +47,7 @@ pub fn run<S: Site, I: Source, O: Sink>(
         (outside S.Disk I.Source O.Sink site.new input.new out.new) }
 {
     match words::parse(words) {
-        Some(command) => perform(alloc, command, site, input, out),
+        Some(command) => perform(alloc, &command, site, input, out),
         None => close(out, b"pakbus: usage\n", Status::Usage),
     }
 }
@@ -55,29 +55,30 @@ pub fn run<S: Site, I: Source, O: Sink>(
 // Runs a command.
 fn perform<S: Site, I: Source, O: Sink>(
     alloc: Global,
-    command: Command,
+    command: &Command,
     site: &mut S,
     input: &mut I,
     out: &mut O,
 ) -> Status
-    requires { IsAllowed (order_of command) }
-    ensures ran { Ran (Some (order_of command)) result
+    requires { IsAllowed (order_of command.now) }
+    ensures ran { Ran (Some (order_of command.now)) result
         (outside S.Disk I.Source O.Sink site.old input.old out.old)
         (outside S.Disk I.Source O.Sink site.new input.new out.new) }
-    ensures may_leave { MayLeave (Some (order_of command)) result
+    ensures may_leave { MayLeave (Some (order_of command.now)) result
         (outside S.Disk I.Source O.Sink site.old input.old out.old)
         (outside S.Disk I.Source O.Sink site.new input.new out.new) }
-    ensures leaves { Leaves S.Disk (uses (Some (order_of command))) site.old input.old site.new input.new }
+    ensures leaves { Leaves S.Disk (uses (Some (order_of command.now))) site.old input.old site.new input.new }
     ensures causes { Causes result
         (outside S.Disk I.Source O.Sink site.old input.old out.old)
         (outside S.Disk I.Source O.Sink site.new input.new out.new) }
 {
-    match command {
+    match *command {
         Command::Show => show::print(input, out),
         Command::Init => init::print(alloc, site, input, out),
         Command::Check => check::print(alloc, site, out),
         Command::Ping { me, node } => ping::print(me, node, site, out),
         Command::Serve { goal } => serve::print(alloc, goal, site, input, out),
         Command::Collect { budget } => collect::print(alloc, budget, site, out),
+        Command::Export { asked } => export::print(alloc, asked, site, out),
     }
 }

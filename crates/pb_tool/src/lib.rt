@@ -5,6 +5,7 @@ mod check;
 mod closing;
 mod collect;
 mod commands;
+mod export;
 mod init;
 mod input;
 mod ping;

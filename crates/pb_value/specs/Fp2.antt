@@ -29,10 +29,12 @@ sign_text negative = if negative then codes "-" else []
 abbrev pub decimals_text : ℕ → ℕ → List ℕ
 decimals_text count m = if count == 0 then [] else codes "." ++ digits count m
 
+-- a sign, and a number with so many decimals
+abbrev pub signed_text : Bool → ℕ → ℕ → List ℕ
+signed_text negative m count = sign_text negative ++ decimal (m / 10 ^ count) ++ decimals_text count m
+
 abbrev pub number_text : ℕ → List ℕ
-number_text word =
-    sign_text (is_negative word) ++ decimal (mantissa word / 10 ^ decimals word)
-    ++ decimals_text (decimals word) (mantissa word)
+number_text word = signed_text (is_negative word) (mantissa word) (decimals word)
 
 unfoldable pub fp2_text : ℕ → List ℕ
 fp2_text word =

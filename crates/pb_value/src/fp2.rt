@@ -1,7 +1,7 @@
 //! Numbers of type FP2: a sign, a number of decimals and a mantissa in two bytes.
-ghost use Rattle.std.specs.Prelude.{◌≡◌, ◌<◌, ◌≤◌, ◌^◌, ◌++◌, length, codes, IfOk, OnErr};
+ghost use Rattle.std.specs.Prelude.{◌≡◌, ◌<◌, ◌≤◌, ◌++◌, length, IfOk, OnErr};
 ghost use Rattle.pb_base.specs.Put.{IsWritten, DoesNotFit};
-ghost use Rattle.pb_value.specs.Fp2.{fp2_text, number_text, sign_text, decimals_text};
+ghost use Rattle.pb_value.specs.Fp2.{fp2_text, number_text, sign_text, signed_text};
 
 use crate::number::digits;
 use crate::text::{write_parts, write_text};
@@ -34,53 +34,79 @@ fn number_into(word: u16, out: &mut [u8]) -> Result<usize, Full>
     ensures written { IfOk result (IsWritten (number_text word) out.old out.new) }
     ensures full { OnErr result (DoesNotFit (number_text word) out.old out.new) }
 {
-    let decimals = word / 0x2000 % 4;
+    let negative = word / 0x8000 == 1;
     let mantissa = word % 0x2000;
-    let mut buffer = Buffer::new();
-    let whole = buffer.format(mantissa / power_of_ten(decimals)).as_bytes();
-    decimals_into(sign(word / 0x8000 == 1), whole, decimals, mantissa, out)
-}
-
-/// A sign, the digits before the point, and the last digits of the mantissa behind it.
-fn decimals_into(
-    sign: &[u8],
-    whole: &[u8],
-    decimals: u16,
-    mantissa: u16,
-    out: &mut [u8],
-) -> Result<usize, Full>
-    requires { decimals < 4 }
-    ensures written { IfOk result (IsWritten (sign.now ++ whole.now ++ decimals_text decimals mantissa) out.old out.new) }
-    ensures full { OnErr result (DoesNotFit (sign.now ++ whole.now ++ decimals_text decimals mantissa) out.old out.new) }
-{
-    let mantissa = u32::from(mantissa);
-    match decimals {
-        0 => write_parts(sign, whole, &[], out),
-        1 => {
-            let [a] = digits::<1>(mantissa);
-            write_parts(sign, whole, &[b'.', a], out)
-        }
-        2 => {
-            let [a, b] = digits::<2>(mantissa);
-            write_parts(sign, whole, &[b'.', a, b], out)
-        }
-        _ => {
-            let [a, b, c] = digits::<3>(mantissa);
-            write_parts(sign, whole, &[b'.', a, b, c], out)
-        }
+    match word / 0x2000 % 4 {
+        0 => no_decimals(negative, mantissa, out),
+        1 => one_decimal(negative, mantissa, out),
+        2 => two_decimals(negative, mantissa, out),
+        _ => three_decimals(negative, mantissa, out),
     }
 }
 
-fn power_of_ten(n: u16) -> u16
-    requires { n < 4 }
-    ensures value { result ≡ 10 ^ n }
-    ensures some { 0 < result }
+fn no_decimals(negative: bool, mantissa: u16, out: &mut [u8]) -> Result<usize, Full>
+    requires { mantissa < 8192 }
+    ensures written { IfOk result (IsWritten (signed_text negative mantissa 0) out.old out.new) }
+    ensures full { OnErr result (DoesNotFit (signed_text negative mantissa 0) out.old out.new) }
 {
-    match n {
-        0 => 1,
-        1 => 10,
-        2 => 100,
-        _ => 1000,
+    write_parts(
+        sign(negative),
+        Buffer::new().format(mantissa).as_bytes(),
+        &[],
+        out,
+    )
+}
+
+fn one_decimal(negative: bool, mantissa: u16, out: &mut [u8]) -> Result<usize, Full>
+    requires { mantissa < 8192 }
+    ensures written { IfOk result (IsWritten (signed_text negative mantissa 1) out.old out.new) }
+    ensures full { OnErr result (DoesNotFit (signed_text negative mantissa 1) out.old out.new) }
+{
+    let [a, b, c, d] = digits::<4>(u32::from(mantissa));
+    if mantissa >= 1000 {
+        write_signed(negative, [a, b, c, b'.', d], out)
+    } else if mantissa >= 100 {
+        write_signed(negative, [b, c, b'.', d], out)
+    } else {
+        write_signed(negative, [c, b'.', d], out)
+    }
+}
+
+fn two_decimals(negative: bool, mantissa: u16, out: &mut [u8]) -> Result<usize, Full>
+    requires { mantissa < 8192 }
+    ensures written { IfOk result (IsWritten (signed_text negative mantissa 2) out.old out.new) }
+    ensures full { OnErr result (DoesNotFit (signed_text negative mantissa 2) out.old out.new) }
+{
+    let [a, b, c, d] = digits::<4>(u32::from(mantissa));
+    if mantissa >= 1000 {
+        write_signed(negative, [a, b, b'.', c, d], out)
+    } else {
+        write_signed(negative, [b, b'.', c, d], out)
+    }
+}
+
+fn three_decimals(negative: bool, mantissa: u16, out: &mut [u8]) -> Result<usize, Full>
+    requires { mantissa < 8192 }
+    ensures written { IfOk result (IsWritten (signed_text negative mantissa 3) out.old out.new) }
+    ensures full { OnErr result (DoesNotFit (signed_text negative mantissa 3) out.old out.new) }
+{
+    let [a, b, c, d] = digits::<4>(u32::from(mantissa));
+    write_signed(negative, [a, b'.', b, c, d], out)
+}
+
+/// A sign and a text, whose length is known.
+fn write_signed<const N: usize>(
+    negative: bool,
+    text: [u8; N],
+    out: &mut [u8],
+) -> Result<usize, Full>
+    ensures written { IfOk result (IsWritten (sign_text negative ++ text.entry) out.old out.new) }
+    ensures full { OnErr result (DoesNotFit (sign_text negative ++ text.entry) out.old out.new) }
+{
+    if negative {
+        write_parts(b"-", &text, &[], out)
+    } else {
+        write_text(&text, out)
     }
 }
 

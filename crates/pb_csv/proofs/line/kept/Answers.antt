@@ -14,7 +14,7 @@ pub returns : goal.returns
 returns c =
     let view = c.args.view.now in
     row-made (decimal view.number.0) (time_text (time_of (content (seen_record view).stored))) (map value_field (values_of c.args.table.now.fields view.bytes.now))
-    c.push_first.new.row.items c.push_time.new.row.items c.push_values.new.row.items c.push.new.self.items
-    (c.in_ok-push_first.ensures ∙ ap (λ (l : List ℕ). l ++ text_of c.as_bytes.result.now) c.clear.ensures.items ∙ ap text_of (c.as_bytes.ensures.value ∙ c.format.ensures.text))
-    (c.in_ok-push_time.ensures.added ∙ ap (λ (t : Nsec). c.push_first.new.row.items ++ comma ∷ text_of (time_text t)) (sym (c.push_time.ensures.spelled view.bytes.now)))
+    c.push_number.new.row.items c.push_time.new.row.items c.push_values.new.row.items c.push.new.self.items
+    (c.in_ok-push_number.ensures ∙ ap (λ (l : List ℕ). l ++ text_of (decimal view.number.0)) c.clear.ensures.items)
+    (c.in_ok-push_time.ensures.added ∙ ap (λ (t : Nsec). c.push_number.new.row.items ++ comma ∷ text_of (time_text t)) (sym (c.push_time.ensures.spelled view.bytes.now)))
     c.in_ok-push_values.ensures c.in_ok-push.ensures.items
