@@ -1,9 +1,6 @@
 #!/usr/bin/env python3
-"""Brings the tables of a station's script into an archive, and compares what an archive keeps with what the script stored.
-
-    kept.py add ARCHIVE SCRIPT     adds each table of the script, as tables of the plan's first station
-    kept.py compare ARCHIVE SCRIPT reads the archive's entries, and ends with 1 where a number below a front isn't there
-                                   exactly once, or a record isn't as it was stored
+"""`kept.py ARCHIVE SCRIPT` compares what an archive keeps of a station with what the station's script stored: reads the
+archive's entries, and ends with 1 where a number below a front isn't there exactly once, or a record isn't as it was stored.
 """
 import struct
 import sys
@@ -19,13 +16,6 @@ def script_tables(path):
         elif words[0] == "store":
             tables[words[2]][5] += int(words[3])
     return list(tables.values())
-
-
-def definition(name, ring, interval, kind, count):
-    return (
-        name.encode() + b"\0" + struct.pack(">IBII", ring, 14, 0, 0) + struct.pack(">II", interval, 0)
-        + bytes([{"fp2": 7, "ascii": 11}[kind]]) + b"V\0" + b"\0" * 4 + struct.pack(">III", 1, count, 0) + b"\0"
-    )
 
 
 def content(n, interval, kind, count):
@@ -44,17 +34,6 @@ def entries(data):
         size = int.from_bytes(data[at + 1 : at + 5], "big")
         yield data[at + 5 : at + 5 + size]
         at += 5 + size
-
-
-def add(archive, script):
-    with open(archive, "r+b") as file:
-        data = file.read()
-        assert data.endswith(b"\0")
-        file.seek(len(data) - 1)
-        for number, (name, ring, interval, kind, count, _) in enumerate(script_tables(script), 1):
-            body = b"T\0" + struct.pack(">H", number) + definition(name, ring, interval, kind, count)
-            file.write(b"\x5a" + struct.pack(">I", len(body)) + body)
-        file.write(b"\0")
 
 
 def compare(archive, script):
@@ -91,4 +70,4 @@ def compare(archive, script):
 
 
 if __name__ == "__main__":
-    {"add": add, "compare": compare}[sys.argv[1]](*sys.argv[2:4])
+    compare(*sys.argv[1:3])

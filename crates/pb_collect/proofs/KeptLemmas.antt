@@ -41,7 +41,7 @@ same_archive file a b x y =
 same_list : (y : List ℕ) (x z : List ℕ) → SameEntries x y → SameEntries y z → SameEntries x z
 same_list y x z p q = (p.0, p.1, subst (λ bodies. Entries z bodies) (sym (one_list y p.0 q.0 p.2 q.1)) q.2)
 
-keeps_list : (x y z : List ℕ) → KeepsEntries x y → KeepsEntries y z → KeepsEntries x z
+pub keeps_list : (x y z : List ℕ) → KeepsEntries x y → KeepsEntries y z → KeepsEntries x z
 keeps_list x y z (inl p) q = subst (λ f. KeepsEntries f z) p q
 keeps_list x y z (inr p) (inl q) = inr (subst (λ f. SameEntries x f) (sym q) p)
 keeps_list x y z (inr p) (inr q) = inr (same_list y x z p q)
@@ -73,7 +73,7 @@ stays_trans x y z (inr p) (inr q) =
 
 -- ---- worlds
 
-grows_same : (a : Option World) → Grows a a
+pub grows_same : (a : Option World) → Grows a a
 grows_same a = record {
   on = λ w is. ([], is ∙ ap (λ l. Some l) (sym (append-nil w)));
   back = λ v is. (v, [], is, sym (append-nil v));
@@ -88,7 +88,7 @@ grows_by old new events g = record {
   back = λ v is. let x = g.back v is in (x.0, x.1, x.2, x.3);
 }
 
-grows_trans : (a b c : Option World) → Grows a b → Grows b c → Grows a c
+pub grows_trans : (a b c : Option World) → Grows a b → Grows b c → Grows a c
 grows_trans a b c p q = record {
   on = λ w is.
       let x = p.on w is in

@@ -1,5 +1,5 @@
 //! The collector of an archive: rounds over all of its tables.
-ghost use Rattle.std.specs.Prelude.{◌≡◌, ◌↔◌, IsTrue, ◌+◌, ◌*◌, ◌^◌, ◌<◌, ◌≤◌, [], true, false, length, vec_capacity, IfOk, IfErr, OnOk, OnErr};
+ghost use Rattle.std.specs.Prelude.{◌≡◌, ◌↔◌, IsTrue, List, ◌++◌, ◌+◌, ◌*◌, ◌^◌, ◌<◌, ◌≤◌, [], true, false, length, vec_capacity, IfOk, IfErr, OnOk, OnErr};
 ghost use Rattle.std.specs.List.{AllByRecursion};
 ghost use Rattle.pb_archive.specs.Entry.{tables_max};
 ghost use Rattle.pb_archive.specs.Opened.{IsOpen, register_of};
@@ -8,15 +8,22 @@ ghost use Rattle.pb_io.specs.Crash.{Changes};
 ghost use Rattle.pb_io.specs.Settled.{Leaves};
 ghost use Rattle.pb_journal.specs.Changes.{SameEntries, Keeps as KeepsEntries};
 ghost use Rattle.pb_collect.specs.Complete.{Completes};
+ghost use Rattle.pb_collect.specs.Adding.{Adds, HoldsAtLeast};
+ghost use Rattle.pb_collect.specs.Defining.{FaultLeaves, Goes};
 ghost use Rattle.pb_collect.specs.Exchanges.{BrokenBy};
+ghost use Rattle.pb_collect.specs.Fetching.{AddedStand, EndedByFault, Fetched, FetchedUntil};
 ghost use Rattle.pb_collect.specs.Heard.{Listens};
 ghost use Rattle.pb_collect.specs.Kept.{Keeps};
+ghost use Rattle.pb_collect.specs.declared.report.DefsLine.{DefsLine as Line};
 ghost use Rattle.pb_collect.specs.Round.{AreInOrder, Asks, AsksBy, AsksUntil, ComesTo, CountsOf, FrontsStand, IsDone, IsEndedBy, Reaches, RoundIs};
 
 use crate::broken::Broken;
 use crate::ending::End;
+use crate::fault::DefsFault;
+use crate::fetching::fetch_all;
 use crate::outcome::Outcome;
 use crate::progress::Progress;
+use crate::report::DefsReport;
 use crate::table::collect_table;
 use pb_archive::{Archive, ArchiveFault, TABLES_MAX};
 use pb_ask::Listener;
@@ -128,6 +135,53 @@ impl Collector {
                 RoundResult::DiskFault
             }
             Err(Broken::LinkFault) => RoundResult::LinkFault,
+        }
+    }
+
+    /// Asks each station of the plan for its file of table definitions, and adds the tables that the archive hasn't, and stops
+    /// those that have another signature there. Adds a line to the report for each table, or for a station that fails; the room
+    /// of a line is taken before its table is. What was done before a fault stays. Takes memory.
+    pub fn fetch_definitions<S: Site>(
+        &mut self,
+        alloc: Global,
+        site: &mut S,
+        limits: Limits,
+        report: &mut DefsReport,
+    ) -> Result<(), DefsFault>
+        requires sends { 1 ≤ limits.sends }
+        requires quiets { 1 ≤ limits.quiets }
+        requires opened { IsOpen self.old.archive (S.view site.old) }
+        requires usable { self.old.ended ≡ false }
+        ensures fetched { OnOk result ((lines : List Line) × (report.new.lines ≡ report.old.lines ++ lines)
+            × Fetched limits lines (S.view site.old).link (S.view site.new).link (register_of self.old.archive)
+            (register_of self.new.archive)) }
+        ensures until { IfErr result (λ fault. (lines : List Line) × (report.new.lines ≡ report.old.lines ++ lines)
+            × FetchedUntil fault limits lines (S.view site.old).link (S.view site.new).link (register_of self.old.archive)
+            (register_of self.new.archive)) }
+        ensures stand { (lines : List Line) → report.new.lines ≡ report.old.lines ++ lines → AddedStand lines (S.view site.new) }
+        ensures holds { HoldsAtLeast (register_of self.new.archive) (S.view site.new) }
+        ensures adds { Adds (S.view site.old) (S.view site.new) }
+        ensures goes { OnOk result (Goes self.new.archive (S.view site.old) (S.view site.new)) }
+        ensures fault { IfErr result (λ fault. FaultLeaves fault self.new.archive (S.view site.old) (S.view site.new)) }
+        ensures usable { OnOk result (self.new.ended ≡ false) }
+        ensures ended { IfErr result (λ fault. EndedByFault fault self.new.ended) }
+        ensures outcomes { self.new.outcomes ≡ self.old.outcomes }
+    {
+        match fetch_all(
+            alloc,
+            &mut self.archive,
+            site,
+            &mut self.tran,
+            limits,
+            report,
+        ) {
+            Ok(()) => Ok(()),
+            Err(DefsFault::DiskFault) => {
+                self.ended = true;
+                Err(DefsFault::DiskFault)
+            }
+            Err(DefsFault::LinkFault) => Err(DefsFault::LinkFault),
+            Err(DefsFault::Memory) => Err(DefsFault::Memory),
         }
     }
 

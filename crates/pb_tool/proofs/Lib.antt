@@ -2,6 +2,7 @@ mod CauseLemmas
 mod CheckLemmas
 mod ClosingLemmas
 mod CollectLemmas
+mod DefsLemmas
 mod ExportLemmas
 mod LineLemmas
 mod PingLemmas

@@ -2,6 +2,7 @@ pub mod Causes
 pub mod Check
 pub mod Closing
 pub mod Collect
+pub mod Defs
 pub mod Export
 pub mod Init
 pub mod Input

@@ -12,6 +12,7 @@ pub data Order : Type 0 where
   Serve : (frames : ℕ) → Order
   Collect : (budget : Option ℕ) → Order
   Export : (asked : Asked) → Order
+  Defs : Order
 
 abbrev pub order_of : Command → Order
 order_of command.Show = Show
@@ -21,3 +22,4 @@ order_of (command.Ping me node) = Ping me node
 order_of (command.Serve goal) = Serve goal
 order_of (command.Collect budget) = Collect budget
 order_of (command.Export asked) = Export (asked_by asked)
+order_of command.Defs = Defs

@@ -1,6 +1,7 @@
 -- Which parts of the outside a command may touch, and what it leaves of them.
 use Rattle.std.specs.Prelude.{◌≡◌, [], Bool, true, false, ◌||◌, Option, Some, None}
 use Rattle.std.specs.Bool.{OnFalse}
+use Rattle.pb_collect.specs.Adding.{Adds as DefsAdds}
 use Rattle.pb_collect.specs.Kept.{Keeps as CollectKeeps}
 use Rattle.pb_io.specs.Disk.{ReadsOnly}
 use Rattle.pb_io.specs.Site.{SendsAtMost}
@@ -10,7 +11,7 @@ use Rattle.pb_io.specs.View.{LeavesOnly}
 use Rattle.pb_journal.specs.Changes.{Keeps}
 use Rattle.pb_io.specs.declared.disk.Disk as disk
 use Rattle.pb_tool.specs.Init.{InitLeaves}
-use Rattle.pb_tool.specs.Order.{Order, Show, Init, Check, Ping, Serve, Collect, Export}
+use Rattle.pb_tool.specs.Order.{Order, Show, Init, Check, Ping, Serve, Collect, Export, Defs}
 use Rattle.pb_tool.specs.Ping.{Greets}
 use Rattle.pb_tool.specs.Serve.{ServeLeaves}
 use Rattle.pb_tool.specs.declared.status.Status.{Status}
@@ -30,6 +31,7 @@ uses (Some (Ping me node)) = record { input = false; disk = false; link = true }
 uses (Some (Serve frames)) = record { input = true; disk = false; link = true }
 uses (Some (Collect budget)) = record { input = false; disk = true; link = true }
 uses (Some (Export asked)) = record { input = false; disk = true; link = false }
+uses (Some Defs) = record { input = false; disk = true; link = true }
 
 -- What the command doesn't use is as it was.
 pub record Leaves {S I : Type 0} (d : disk.Ghosts S) (u : Uses) (site_old : S) (input_old : I) (site_new : S)
@@ -51,3 +53,4 @@ MayLeave (Some (Ping me node)) result before after = LeavesOnly before.site afte
 MayLeave (Some (Serve frames)) result before after = ServeLeaves before after
 MayLeave (Some (Collect budget)) result before after = CollectKeeps before.site after.site
 MayLeave (Some (Export asked)) result before after = DiskLeaves Keeps before.site after.site
+MayLeave (Some Defs) result before after = DefsAdds before.site after.site

@@ -94,8 +94,8 @@ pub fn push_names<O: Sink>(page: &mut Page, archive: &Archive, table: TableView,
     push_escaped(page, table.table.name(), out);
 }
 
-// The name of a station of the plan.
-fn name_of(archive: &Archive, station: u8) -> &[u8]
+/// The name of a station of the plan.
+pub fn name_of(archive: &Archive, station: u8) -> &[u8]
     ensures { result.now ≡ station_name archive.now.plan station }
 {
     match archive.plan().station(station) {

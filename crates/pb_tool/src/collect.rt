@@ -26,9 +26,9 @@ use pb_trans::Limits;
 use std::alloc::Global;
 
 /// How often a request is sent at most, and after how many quiet ticks it is sent again or given up.
-const SENDS: u8 = 3;
+pub(crate) const SENDS: u8 = 3;
 
-const QUIETS: u16 = 5;
+pub(crate) const QUIETS: u16 = 5;
 
 /// How many requests a table may take, where no number is given.
 const BUDGET: u32 = 10_000;
@@ -67,8 +67,8 @@ fn budget_of(budget: Option<u32>) -> u32
     }
 }
 
-// Says why the archive wasn't opened.
-fn refuse<O: Sink>(fault: ArchiveFault, out: &mut O) -> Status
+/// Says why the archive wasn't opened.
+pub(crate) fn refuse<O: Sink>(fault: ArchiveFault, out: &mut O) -> Status
     ensures closed { Closes (refusal_status fault) result (refusal_text fault) (O.written out.old) (O.written out.new) }
     ensures writes { Counts Status.WriteFault result (O.write_faults out.old) (O.write_faults out.new) }
 {

@@ -9,7 +9,7 @@ ghost use Rattle.pb_tool.specs.Words.{IsAllowed, Said};
 
 use crate::closing::close;
 use crate::words::{self, Command};
-use crate::{Status, check, collect, export, init, ping, serve, show};
+use crate::{Status, check, collect, defs, export, init, ping, serve, show};
 use pb_io::{Sink, Site, Source};
 use std::alloc::Global;
 
@@ -19,7 +19,8 @@ use std::alloc::Global;
 /// `show` reads `input` to its end, and `ping` greets a node over the link of `site`; neither takes memory. `init` makes an
 /// archive of the plan that `input` is, in the file of `site`, and `check` tells what the archive there holds. `serve`
 /// answers on the link of `site` as the station of the script that `input` is. `collect` asks the stations of the archive over
-/// the link of `site`, and keeps what they answer in its file. `export` writes the rows of a table of the archive as CSV.
+/// the link of `site`, and keeps what they answer in its file; `defs` asks them for their table definitions, and keeps those.
+/// `export` writes the rows of a table of the archive as CSV.
 pub fn run<S: Site, I: Source, O: Sink>(
     alloc: Global,
     words: &[String],
@@ -80,5 +81,6 @@ fn perform<S: Site, I: Source, O: Sink>(
         Command::Serve { goal } => serve::print(alloc, goal, site, input, out),
         Command::Collect { budget } => collect::print(alloc, budget, site, out),
         Command::Export { asked } => export::print(alloc, asked, site, out),
+        Command::Defs => defs::print(alloc, site, out),
     }
 }

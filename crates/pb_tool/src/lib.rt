@@ -5,6 +5,7 @@ mod check;
 mod closing;
 mod collect;
 mod commands;
+mod defs;
 mod export;
 mod init;
 mod input;
