@@ -21,5 +21,5 @@ pub use learning::{
 };
 pub use pairs::{
     archives_have_each_table_once, changes_keep_archives_true, created_archives_are_good,
-    images_stay_good, pairs_stay_good,
+    images_stay_good, pairs_stay_good, sessions_follow_one_another,
 };

@@ -1,5 +1,5 @@
 //! Laws of the pairs of a world and an image that a crash may leave.
-ghost use Rattle.std.specs.Prelude.{◌≡◌, ℕ, ◌++◌, List};
+ghost use Rattle.std.specs.Prelude.{◌≡◌, ℕ, ◌++◌, List, Some};
 ghost use Rattle.pb_base.specs.World.{World};
 ghost use Rattle.pb_base.specs.History.{history};
 ghost use Rattle.pb_base.specs.Request.{Request};
@@ -9,7 +9,7 @@ ghost use Rattle.pb_archive.specs.Entry.{Change, IsAllowed, IsArchive, created, 
 ghost use Rattle.pb_archive.specs.Plan.{Plan};
 ghost use Rattle.pb_archive.specs.Held.{HasArchive, KeepsOrMakes, Writes};
 ghost use Rattle.pb_archive.specs.Truth.{Sound};
-ghost use Rattle.pb_truth.specs.Asked.{WasAsked, Allows, IsOwn, HasOneEach, AskedBelow};
+ghost use Rattle.pb_truth.specs.Asked.{WasAsked, Allows, AsksNothing, IsOwn, HasOneEach, AskedBelow};
 ghost use Rattle.pb_truth.specs.Image.{StaysTrue, Good};
 ghost use Rattle.pb_truth.specs.Pairs.{AreGood, AreGoodSince, AsksAllowed, StaysTrueIn};
 
@@ -76,3 +76,13 @@ pub fn pairs_stay_good<S: Site>()
     entries_are_one_archive();
     changes_take_nothing_back();
 }
+
+/// Sessions follow one another, also after a crash: where each pair that a session left at some moment is good, so is each with
+/// which the next one begins, over the file that one of these pairs has, in its world, with any events behind it in which
+/// nothing was asked.
+pub fn sessions_follow_one_another<S: Site>()
+    ensures { (entry last next : S) (w more : World) (image : List ℕ) → AreGoodSince (S.view entry) (S.view last)
+        → (S.view last).may_leave (S.view entry).moment w image → AsksNothing more
+        → (S.view next).link.world ≡ Some (w ++ more) → ((c : List ℕ) → (S.view next).image c → c ≡ image)
+        → AreGood (S.view next) }
+{}
