@@ -22,7 +22,8 @@ pub fn host_and_port(word: &str) -> Option<(&str, u16)>
 
 /// The TCP port of a word `listen:PORT`; `None` where it has another form.
 pub fn listening_port(word: &str) -> Option<u16>
-    ensures { MatchOption result ((port : ℕ) → port < 2 ^ 16 → ¬ IsListening word.now port) (λ port. IsListening word.now port) }
+    ensures { MatchOption result ((port : ℕ) → port < 2 ^ 16 → ¬ IsListening word.now port)
+        (λ port. IsListening word.now port) }
 {
     match word.strip_prefix("listen:") {
         Some(digits) => port_of(digits),
@@ -43,7 +44,8 @@ fn host_of(text: &str) -> Option<&str>
 }
 
 fn some_host(host: &str) -> Option<&str>
-    ensures { MatchOption result (length host.now ≡ 0) (λ same. (same.now ≡ host.now) × (0 < length host.now)) }
+    ensures { MatchOption result (length host.now ≡ 0)
+        (λ same. (same.now ≡ host.now) × (0 < length host.now)) }
 {
     if host.is_empty() {
         return None;
@@ -53,7 +55,8 @@ fn some_host(host: &str) -> Option<&str>
 
 // The port that digits write.
 fn port_of(digits: &str) -> Option<u16>
-    ensures { MatchOption result ((port : ℕ) → port < 2 ^ 16 → ¬ IsPort digits.now port) (λ port. IsPort digits.now port) }
+    ensures { MatchOption result ((port : ℕ) → port < 2 ^ 16 → ¬ IsPort digits.now port)
+        (λ port. IsPort digits.now port) }
 {
     let port = parse_decimal(digits.as_bytes())?;
     if port == 0 || port > u32::from(u16::MAX) {

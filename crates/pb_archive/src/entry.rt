@@ -92,7 +92,8 @@ fn read_table(alloc: Global, body: &[u8]) -> Result<(u8, TableNo, Table), EntryF
     ensures read { IfOk result (λ r. (d : _) × IsTable d × (r.2 ≡ view_of d)
         × (drop 1 body.now ≡ r.0 ∷ (entry.half r.1.0 ++ table_bytes d))) }
     ensures ranges { IfOk result (λ r. (r.0 < 2 ^ 8) × (r.1.0 < 2 ^ 16)) }
-    ensures wrong { IfErr result (λ fault. fault ≡ EntryFault.Wrong → (station number : ℕ) (d : _) → IsTable d
+    ensures wrong { IfErr result (λ fault. fault ≡ EntryFault.Wrong → (station number : ℕ) (d : _)
+        → IsTable d
         → drop 1 body.now ≡ station ∷ (entry.half number ++ table_bytes d) → ⊥) }
 {
     if body.len() < TABLE_HEAD {
@@ -109,7 +110,8 @@ pub(crate) fn read_advance(body: &[u8]) -> Option<(TableId, Advance)>
     requires { 0 < length body.now }
     ensures read { IfSome result (λ r. drop 1 body.now
         ≡ drop 1 (entry.change_bytes (entry.Advanced r.0.0 (inside.seen_advance r.1)))) }
-    ensures wrong { result ≡ None → (id : ℕ) (a : _) → drop 1 body.now ≡ drop 1 (entry.change_bytes (entry.Advanced id a)) → ⊥ }
+    ensures wrong { result ≡ None → (id : ℕ) (a : _)
+        → drop 1 body.now ≡ drop 1 (entry.change_bytes (entry.Advanced id a)) → ⊥ }
 {
     if body.len() < ADVANCE_HEAD {
         return None;

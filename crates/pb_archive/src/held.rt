@@ -215,7 +215,11 @@ impl Register {
     /// No more is collected of a table.
     pub(crate) fn stop(&mut self, id: TableId, stop: Stop)
         requires { id.0 < length self.old.tables }
-        ensures { self.new ≡ record { plan = self.old.plan; tables = changed_at id.0 (opened.ended stop) self.old.tables } }
+        ensures { self.new ≡ record {
+          plan = self.old.plan;
+          tables = changed_at id.0
+              (opened.ended stop) self.old.tables;
+        } }
     {
         self.tables[usize::from(id.0)].stop = Some(stop);
     }
@@ -223,7 +227,8 @@ impl Register {
     /// How a table's records are cut.
     pub(crate) fn layout(&self, id: TableId) -> Layout
         requires { id.0 < length self.now.tables }
-        ensures { (held : _) × (slice_get self.now.tables id.0 ≡ Some held) × (held.table.layout ≡ Ok result) }
+        ensures { (held : _) × (slice_get self.now.tables id.0 ≡ Some held)
+            × (held.table.layout ≡ Ok result) }
     {
         self.tables[usize::from(id.0)].table.layout().unwrap()
     }
@@ -274,7 +279,8 @@ impl Register {
     pub(crate) fn take(&mut self, change: Change) -> bool
         ensures taken { result ≡ true → (said : _) → inside.Says change.entry said
             → inside.AllowsHere self.old said × (self.new ≡ opened.register_after self.old said) }
-        ensures refused { result ≡ false → (said : _) → inside.Says change.entry said → inside.AllowsHere self.old said → ⊥ }
+        ensures refused { result ≡ false → (said : _) → inside.Says change.entry said
+            → inside.AllowsHere self.old said → ⊥ }
         ensures stays { result ≡ false → self.new ≡ self.old }
     {
         match change {

@@ -30,7 +30,8 @@ pub fn refused_files_have_no_archive()
 /// A law: an allowed change takes nothing back. The archive that it makes has the same plan, each table with all of its rows,
 /// and each stop. What goes on from one that goes on is one.
 pub fn changes_take_nothing_back()
-    ensures change { (a : Archive) (change : Change) → IsAllowed a change → Extends a (archive_after a change) }
+    ensures change { (a : Archive) (change : Change) → IsAllowed a change
+        → Extends a (archive_after a change) }
     ensures further { (a b c : Archive) → Extends a b → Extends b c → Extends a c }
 {}
 
@@ -44,7 +45,8 @@ fn plans_and_changes_are_spelled()
         let advance : Advance = record { form = 0; first = 0x01020304; count = 2; bytes = 0xAA ∷ 0xBB ∷ [] } in
         (plan_text plan ≡ codes "self 4094 via 10\nstation 10 7 ab\n")
         × (plan_bytes plan ≡ 0x50 ∷ 0x0F ∷ 0xFE ∷ 0 ∷ 10 ∷ 1 ∷ 0 ∷ 10 ∷ 0 ∷ 7 ∷ 0x61 ∷ 0x62 ∷ 0 ∷ [])
-        × (change_bytes (Advanced 258 advance) ≡ 0x41 ∷ 1 ∷ 2 ∷ 0 ∷ 1 ∷ 2 ∷ 3 ∷ 4 ∷ 0 ∷ 2 ∷ 0xAA ∷ 0xBB ∷ [])
+        × (change_bytes (Advanced 258 advance)
+        ≡ 0x41 ∷ 1 ∷ 2 ∷ 0 ∷ 1 ∷ 2 ∷ 3 ∷ 4 ∷ 0 ∷ 2 ∷ 0xAA ∷ 0xBB ∷ [])
         × (change_bytes (Stopped 3 (record { told = Some 0x8A5F })) ≡ 0x53 ∷ 0 ∷ 3 ∷ 1 ∷ 0x8A ∷ 0x5F ∷ [])
         × (change_bytes (Stopped 3 (record { told = None })) ≡ 0x53 ∷ 0 ∷ 3 ∷ 0 ∷ 0 ∷ 0 ∷ []) }
 {}
@@ -60,7 +62,8 @@ fn contents_are_cut()
         let second = 0 ∷ 0 ∷ 0 ∷ 0x11 ∷ 0x23 ∷ 0xC3 ∷ 0x46 ∷ 9 ∷ 0xBB ∷ [] in
         let both : List (List ℕ) = first ∷ second ∷ [] in
         (contents intervals (record { form = 0; first = 0; count = 2; bytes = first ++ second }) ≡ both)
-        × (contents intervals (record { form = 1; first = 0; count = 2; bytes = first ++ 0xBB ∷ [] }) ≡ both) }
+        × (contents intervals (record { form = 1; first = 0; count = 2; bytes = first ++ 0xBB ∷ [] })
+        ≡ both) }
 {}
 
 // Worked values: the only table of a plan with two stations, whose records 2 and 3 are kept, and then it is stopped.
@@ -95,7 +98,8 @@ fn archives_are_made()
 
 // Worked values: the rows of a table with two gaps, of all of its numbers and of ranges that begin and end inside gaps.
 fn rows_are_in_order()
-    ensures { let table : List (Option (List ℕ)) = None ∷ None ∷ Some (1 ∷ []) ∷ Some (2 ∷ []) ∷ None ∷ None ∷ [] in
+    ensures { let table : List (Option (List ℕ)) = None ∷ None ∷ Some (1 ∷ []) ∷ Some (2 ∷ []) ∷ None
+        ∷ None ∷ [] in
         (rows_between table 0 6 ≡ gap 0 2 ∷ kept 2 (1 ∷ []) ∷ kept 3 (2 ∷ []) ∷ gap 4 6 ∷ [])
         × (rows_between table 1 5 ≡ gap 1 2 ∷ kept 2 (1 ∷ []) ∷ kept 3 (2 ∷ []) ∷ gap 4 5 ∷ [])
         × (rows_between table 1 2 ≡ gap 1 2 ∷ [])

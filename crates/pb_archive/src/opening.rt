@@ -37,7 +37,8 @@ fn read_first<D: Disk>(
     disk: &mut D,
 ) -> Result<Register, ArchiveFault>
     requires { ForSome (D.view disk.old).file (Begins entries.old journal.now.gate) }
-    ensures read { IfOk result (λ r. ForSome (D.view disk.old).file (HasRead r entries.new journal.now.gate)) }
+    ensures read { IfOk result (λ r. ForSome (D.view disk.old).file
+        (HasRead r entries.new journal.now.gate)) }
     ensures refused { IfErr result (OpenRefuses (D.view disk.old).file) }
     ensures peeks { Peeks (D.view disk.old) (D.view disk.new) }
     ensures cause { HasDiskCause (D.view disk.old).faults (D.view disk.new).faults result }

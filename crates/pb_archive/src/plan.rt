@@ -167,7 +167,8 @@ impl Draft {
         ensures added { OnOk result (self.new ≡ with_station self.old station) }
         ensures begun { OnOk result (IsBegun self.new) }
         ensures stays { OnErr result (self.new ≡ self.old) }
-        ensures refused { IfErr result (λ fault. fault ≡ StationFault.Refused → IsBegun (with_station self.old station) → ⊥) }
+        ensures refused { IfErr result (λ fault. fault ≡ StationFault.Refused
+            → IsBegun (with_station self.old station) → ⊥) }
     {
         if self.stations.len() >= STATIONS_MAX {
             return Err(StationFault::Refused);

@@ -26,7 +26,8 @@ pub(crate) struct StationFields<'a> {
 // The fields of the station that comes next; none where none does.
 fn station_fields<'a>(fields: &mut Fields<'a>) -> Option<StationFields<'a>>
     requires { IsBytes fields.old.rest }
-    ensures read { MatchOption result ((s : _) (rest : _) → IsSpelledStation s → fields.old.rest ≡ station_bytes s ++ rest → ⊥)
+    ensures read { MatchOption result ((s : _) (rest : _) → IsSpelledStation s
+        → fields.old.rest ≡ station_bytes s ++ rest → ⊥)
         (λ r. ReadsStation fields.old (station r.addr r.code r.name.now) fields.new) }
 {
     let addr = match fields.u16() {
@@ -90,7 +91,8 @@ fn read_stations(fields: &mut Fields, draft: &mut Draft, count: u8) -> Result<()
 /// Reads the body of the first entry. Takes memory.
 pub(crate) fn read_plan(alloc: Global, body: &[u8]) -> Result<Plan, EntryFault>
     ensures read { IfOk result (λ p. IsPlan p × (body.now ≡ plan_bytes p)) }
-    ensures wrong { IfErr result (λ fault. fault ≡ EntryFault.Wrong → (p : _) → IsPlan p → body.now ≡ plan_bytes p → ⊥) }
+    ensures wrong { IfErr result (λ fault. fault ≡ EntryFault.Wrong → (p : _) → IsPlan p
+        → body.now ≡ plan_bytes p → ⊥) }
 {
     if body.len() < PLAN_HEAD || body[0] != PLAN {
         return Err(EntryFault::Wrong);

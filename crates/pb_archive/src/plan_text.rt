@@ -52,7 +52,8 @@ fn cut_at(bytes: &[u8], stop: u8) -> Option<Halves>
 
 // A number below 65,536.
 fn number(word: &[u8]) -> Option<u16>
-    ensures { MatchOption result ((n : ℕ) → n < 2 ^ 16 → word.now ≡ decimal n → ⊥) (λ n. word.now ≡ decimal n) }
+    ensures { MatchOption result ((n : ℕ) → n < 2 ^ 16 → word.now ≡ decimal n → ⊥)
+        (λ n. word.now ≡ decimal n) }
 {
     let n = match parse_decimal(word) {
         Some(n) => n,
@@ -82,7 +83,8 @@ fn after<'a>(text: &'a [u8], prefix: &[u8]) -> Option<&'a [u8]>
 // The number that comes first and ends with this byte, which is no digit.
 fn number_until(text: &[u8], stop: u8) -> Option<Numbered>
     requires { stop < 48 }
-    ensures { MatchOption result ((n : ℕ) (rest : List ℕ) → n < 2 ^ 16 → text.now ≡ decimal n ++ stop ∷ rest → ⊥)
+    ensures { MatchOption result ((n : ℕ) (rest : List ℕ) → n < 2 ^ 16
+        → text.now ≡ decimal n ++ stop ∷ rest → ⊥)
         (λ r. (r.n < 2 ^ 16) × (text.now ≡ decimal r.n ++ stop ∷ r.rest.now)) }
 {
     let halves = match cut_at(text, stop) {
@@ -108,7 +110,8 @@ pub(crate) struct Addressed<'a> {
 // The address that comes first and ends with this byte, which is no digit.
 fn address_until(text: &[u8], stop: u8) -> Option<Addressed>
     requires { stop < 48 }
-    ensures { MatchOption result ((n : ℕ) (rest : List ℕ) → IsAddress n → text.now ≡ decimal n ++ stop ∷ rest → ⊥)
+    ensures { MatchOption result ((n : ℕ) (rest : List ℕ) → IsAddress n
+        → text.now ≡ decimal n ++ stop ∷ rest → ⊥)
         (λ r. IsAddress r.node × (text.now ≡ decimal r.node ++ stop ∷ r.rest.now)) }
 {
     let first = match number_until(text, stop) {
@@ -169,7 +172,8 @@ pub(crate) struct Next<'a> {
 
 // The station of the next line; none where no such line comes next.
 fn read_station(me: NodeId, text: &[u8]) -> Option<Next>
-    ensures { MatchOption result ((s : _) (more : List ℕ) → IsStation me s → text.now ≡ station_line s ++ more → ⊥)
+    ensures { MatchOption result ((s : _) (more : List ℕ) → IsStation me s
+        → text.now ≡ station_line s ++ more → ⊥)
         (λ r. IsStation me r.station × (text.now ≡ station_line r.station ++ r.rest.now)) }
 {
     let text = match after(text, b"station ") {
@@ -201,7 +205,8 @@ fn read_station(me: NodeId, text: &[u8]) -> Option<Next>
 fn read_stations(draft: &mut Draft, text: &[u8]) -> Result<(), PlanFault>
     requires begun { IsBegun draft.old }
     requires first { draft.old.stations ≡ [] }
-    ensures read { OnOk result (IsBegun draft.new × (draft.new.me ≡ draft.old.me) × (draft.new.via ≡ draft.old.via)
+    ensures read { OnOk result (IsBegun draft.new × (draft.new.me ≡ draft.old.me)
+        × (draft.new.via ≡ draft.old.via)
         × (text.now ≡ flat_map station_line draft.new.stations)) }
     ensures refused { IfErr result (LineRefuses draft.old text.now) }
 {

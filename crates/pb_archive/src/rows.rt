@@ -206,7 +206,8 @@ impl Archive {
         requires there { id.0 < length self.now.tables }
         requires order { from.0 ≤ to.0 }
         requires front { (held : _) → slice_get self.now.tables id.0 ≡ Some held → to.0 ≤ held.front }
-        ensures begins { IfOk result (λ r. (file : _) → Stands (register_of self.now) self.now.journal.gate file
+        ensures begins { IfOk result (λ r. (file : _)
+            → Stands (register_of self.now) self.now.journal.gate file
             → BeginsAt r id.0 from.0 to.0 file) }
         ensures range { IfOk result (λ r. (r.next ≡ from.0) × (r.to ≡ to.0) × (r.row ≡ None)) }
         ensures held { IfOk result (λ r. r.entries.chunk.held ≡ window_len) }

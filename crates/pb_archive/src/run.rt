@@ -50,7 +50,8 @@ fn run_of(layout: Layout, advance: &Advance) -> Option<Run>
 
 /// The run of the entry with this body, where it is an advance of this table; none where it is another entry.
 pub(crate) fn run_in(body: &[u8], id: TableId, layout: Layout) -> Result<Option<Run>, EntryFault>
-    ensures read { IfOk result (λ found. MatchOption found (HasNoRun id.0 body.now) (IsRunIn id.0 layout body.now)) }
+    ensures read { IfOk result (λ found. MatchOption found (HasNoRun id.0 body.now)
+        (IsRunIn id.0 layout body.now)) }
     ensures wrong { IfErr result (λ _. (change : _) → IsSpelled change → body.now ≡ change_bytes change
         → FitsTable id.0 layout change → ⊥) }
     ensures kind { IfErr result (λ _. slice_index body.now 0 ≡ advance_kind) }

@@ -35,7 +35,8 @@ fn write<D: Disk>(
     requires usable { journal.old.must_reopen ≡ false }
     requires opened { (r : _) × ForSome (D.view disk.old).file (Stands r journal.old.gate) }
     requires settled { IsSettled (D.view disk.old) }
-    ensures writes { (r : _) (change : _) → inside.CanWrite r change journal.old.gate (head.now ++ rest.now) (D.view disk.old)
+    ensures writes { (r : _) (change : _) → inside.CanWrite r change journal.old.gate
+        (head.now ++ rest.now) (D.view disk.old)
         → Writes change (D.view disk.old) (D.view disk.new) }
     ensures wrote { OnOk result ((r : _) (change : _)
         → inside.CanWrite r change journal.old.gate (head.now ++ rest.now) (D.view disk.old)
@@ -94,10 +95,13 @@ impl Archive {
         requires few { length head.now + length rest.now ≤ max_body_len }
         requires usable { NeedsOpening self.old false }
         requires opened { IsOpen self.old (D.view disk.old) }
-        ensures writes { (change : _) → inside.IsEntryOf (register_of self.old) change (head.now ++ rest.now)
+        ensures writes { (change : _) → inside.IsEntryOf (register_of self.old) change
+            (head.now ++ rest.now)
             → Writes change (D.view disk.old) (D.view disk.new) }
-        ensures wrote { OnOk result ((change : _) → inside.IsEntryOf (register_of self.old) change (head.now ++ rest.now)
-            → inside.HasWritten change (register_of self.old) self.new.journal.gate (D.view disk.old) (D.view disk.new)) }
+        ensures wrote { OnOk result ((change : _)
+            → inside.IsEntryOf (register_of self.old) change (head.now ++ rest.now)
+            → inside.HasWritten change (register_of self.old) self.new.journal.gate (D.view disk.old)
+            (D.view disk.new)) }
         ensures same { register_of self.new ≡ register_of self.old }
         ensures refused { IfErr result (λ fault. fault ≡ ArchiveFault.DiskFault) }
         ensures must_reopen { NeedsOpening self.new (is_err result) }
@@ -135,13 +139,17 @@ impl Archive {
         ensures wrote { OnOk result ((d : _) → IsTable d → table ≡ view_of d
             → Wrote (Added station number.0 d) (D.view disk.old) (D.view disk.new)) }
         ensures opened { OnOk result (IsOpen self.new (D.view disk.new)) }
-        ensures allowed { OnOk result (NeedsOpening self.old false × (length self.old.tables < tables_max)) }
+        ensures allowed { OnOk result (NeedsOpening self.old false
+            × (length self.old.tables < tables_max)) }
         ensures usable { OnOk result (NeedsOpening self.new false) }
-        ensures changed { OnOk result (register_of self.new ≡ with_table (register_of self.old) station number.0 table) }
+        ensures changed { OnOk result (register_of self.new
+            ≡ with_table (register_of self.old) station number.0 table) }
         ensures stays { OnErr result (register_of self.new ≡ register_of self.old) }
         ensures refused { IfErr result (AddRefuses self.old) }
-        ensures must_reopen { IfErr result (λ fault. fault ≡ ArchiveFault.DiskFault → NeedsOpening self.new true) }
-        ensures nothing { IfErr result (λ fault. fault ≢ ArchiveFault.DiskFault → (disk.new ≡ disk.old) × (self.new ≡ self.old)) }
+        ensures must_reopen { IfErr result (λ fault. fault ≡ ArchiveFault.DiskFault
+            → NeedsOpening self.new true) }
+        ensures nothing { IfErr result (λ fault. fault ≢ ArchiveFault.DiskFault
+            → (disk.new ≡ disk.old) × (self.new ≡ self.old)) }
         ensures cause { HasDiskCause (D.view disk.old).faults (D.view disk.new).faults result }
     {
         if self.must_reopen {
@@ -180,8 +188,10 @@ impl Archive {
         requires follows { (held : _) → slice_get self.old.tables id.0 ≡ Some held
             → CanAdvanceHere held (advance_of form first.0 count bytes.now) }
         requires opened { NeedsOpening self.old false → IsOpen self.old (D.view disk.old) }
-        ensures writes { Writes (an_advance id.0 form first.0 count bytes.now) (D.view disk.old) (D.view disk.new) }
-        ensures wrote { OnOk result (Wrote (an_advance id.0 form first.0 count bytes.now) (D.view disk.old) (D.view disk.new)) }
+        ensures writes { Writes (an_advance id.0 form first.0 count bytes.now) (D.view disk.old)
+            (D.view disk.new) }
+        ensures wrote { OnOk result (Wrote (an_advance id.0 form first.0 count bytes.now)
+            (D.view disk.old) (D.view disk.new)) }
         ensures opened { OnOk result (IsOpen self.new (D.view disk.new)) }
         ensures allowed { OnOk result (NeedsOpening self.old false × GoesOn (register_of self.old) id.0) }
         ensures usable { OnOk result (NeedsOpening self.new false) }
@@ -189,8 +199,10 @@ impl Archive {
             ≡ register_after (register_of self.old) (an_advance id.0 form first.0 count bytes.now)) }
         ensures stays { OnErr result (register_of self.new ≡ register_of self.old) }
         ensures refused { IfErr result (ChangeRefuses self.old id.0) }
-        ensures must_reopen { IfErr result (λ fault. fault ≡ ArchiveFault.DiskFault → NeedsOpening self.new true) }
-        ensures nothing { IfErr result (λ fault. fault ≢ ArchiveFault.DiskFault → (disk.new ≡ disk.old) × (self.new ≡ self.old)) }
+        ensures must_reopen { IfErr result (λ fault. fault ≡ ArchiveFault.DiskFault
+            → NeedsOpening self.new true) }
+        ensures nothing { IfErr result (λ fault. fault ≢ ArchiveFault.DiskFault
+            → (disk.new ≡ disk.old) × (self.new ≡ self.old)) }
         ensures cause { HasDiskCause (D.view disk.old).faults (D.view disk.new).faults result }
     {
         if self.must_reopen {
@@ -233,11 +245,14 @@ impl Archive {
         ensures opened { OnOk result (IsOpen self.new (D.view disk.new)) }
         ensures allowed { OnOk result (NeedsOpening self.old false × GoesOn (register_of self.old) id.0) }
         ensures usable { OnOk result (NeedsOpening self.new false) }
-        ensures changed { OnOk result (register_of self.new ≡ register_after (register_of self.old) (stop_of id.0 told)) }
+        ensures changed { OnOk result (register_of self.new
+            ≡ register_after (register_of self.old) (stop_of id.0 told)) }
         ensures stays { OnErr result (register_of self.new ≡ register_of self.old) }
         ensures refused { IfErr result (ChangeRefuses self.old id.0) }
-        ensures must_reopen { IfErr result (λ fault. fault ≡ ArchiveFault.DiskFault → NeedsOpening self.new true) }
-        ensures nothing { IfErr result (λ fault. fault ≢ ArchiveFault.DiskFault → (disk.new ≡ disk.old) × (self.new ≡ self.old)) }
+        ensures must_reopen { IfErr result (λ fault. fault ≡ ArchiveFault.DiskFault
+            → NeedsOpening self.new true) }
+        ensures nothing { IfErr result (λ fault. fault ≢ ArchiveFault.DiskFault
+            → (disk.new ≡ disk.old) × (self.new ≡ self.old)) }
         ensures cause { HasDiskCause (D.view disk.old).faults (D.view disk.new).faults result }
     {
         if self.must_reopen {

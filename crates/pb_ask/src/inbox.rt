@@ -73,8 +73,10 @@ impl Inbox {
         ensures world { MatchResult result
             (λ _. GrowsBy (S.view site.old).link.world (S.view site.new).link.world (arrival self.new))
             (λ _. GrowsBy (S.view site.old).link.world (S.view site.new).link.world []) }
-        ensures tick { IfOk result (λ n. n ≡ 0 → (S.view site.new).link.quiets ≡ counted (S.view site.old).link.quiets) }
-        ensures no_tick { IfOk result (λ n. 0 < n → (S.view site.new).link.quiets ≡ (S.view site.old).link.quiets) }
+        ensures tick { IfOk result (λ n. n ≡ 0
+            → (S.view site.new).link.quiets ≡ counted (S.view site.old).link.quiets) }
+        ensures no_tick { IfOk result (λ n. 0 < n
+            → (S.view site.new).link.quiets ≡ (S.view site.old).link.quiets) }
         ensures still { OnErr result ((S.view site.new).link.quiets ≡ (S.view site.old).link.quiets) }
         ensures disk { ReadsOnly (S.view site.old) (S.view site.new) }
         ensures disk_faults { (S.view site.new).faults ≡ (S.view site.old).faults }

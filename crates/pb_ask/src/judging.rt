@@ -18,7 +18,8 @@ pub(crate) fn judge_content<Q: Question>(
 ) -> Option<Ended<Q::Answer>>
     requires size { IsContentSize (length content.now) }
     requires asked { exchange.old.asked ≡ (Q.wanted question.now).asked }
-    ensures ends { MatchOption result ((e : Ended Q.Answer) → EndsBy (Q.wanted question.now) e content.now → ⊥)
+    ensures ends { MatchOption result ((e : Ended Q.Answer)
+        → EndsBy (Q.wanted question.now) e content.now → ⊥)
         (λ e. EndsBy (Q.wanted question.now) e content.now) }
     ensures heeds { HeedsContent content.now exchange.old exchange.new }
 {
@@ -36,7 +37,8 @@ fn judge_packet<Q: Question>(
     message: &[u8],
 ) -> Option<Ended<Q::Answer>>
     requires { exchange.old.asked ≡ (Q.wanted question.now).asked }
-    ensures ends { MatchOption result ((e : Ended Q.Answer) → EndsAs (Q.wanted question.now) e header.now message.now → ⊥)
+    ensures ends { MatchOption result ((e : Ended Q.Answer)
+        → EndsAs (Q.wanted question.now) e header.now message.now → ⊥)
         (λ e. EndsAs (Q.wanted question.now) e header.now message.now) }
     ensures hears { Hears exchange.old header.now message.now exchange.new }
 {

@@ -17,22 +17,29 @@ use crate::question::{Ended, Question};
 /// All that was judged in one call: the first frame that ends the request is the last that was judged, and where the
 /// outcome is none of a frame, or a call failed, none did. The content of an answer is that of one of the verdicts.
 pub fn law_judged<Q: Question>()
-    ensures asks { (q : Q) (limits : Limits) (old new : Listening) (a b : Link) (outcome : Outcome Q.Answer)
+    ensures asks { (q : Q) (limits : Limits) (old new : Listening) (a b : Link)
+        (outcome : Outcome Q.Answer)
         (h : Asks (Q.wanted q) limits old a outcome new b)
-        → (all : Hears old (h.before ++ (Sent (Q.wanted q).frame ∷ h.last.heard)) new) × JudgedAs (Q.wanted q) outcome all.shown }
-    ensures held { (q : Q) (limits : Limits) (old new : Listening) (a b : Link) (answer : Q.Answer) (h : Asks (Q.wanted q) limits old a (Outcome.Answer answer) new b)
-        → (all : Hears old (h.before ++ (Sent (Q.wanted q).frame ∷ h.last.heard)) new) × Holds (EndsBy (Q.wanted q)) (Ended.Answer answer) all.shown new.ear }
-    ensures stops { (q : Q) (limits : Limits) (old new : Listening) (a b : Link) (h : Stops (Q.wanted q) limits old a new b)
+        → (all : Hears old (h.before ++ (Sent (Q.wanted q).frame ∷ h.last.heard)) new)
+        × JudgedAs (Q.wanted q) outcome all.shown }
+    ensures held { (q : Q) (limits : Limits) (old new : Listening) (a b : Link) (answer : Q.Answer)
+        (h : Asks (Q.wanted q) limits old a (Outcome.Answer answer) new b)
+        → (all : Hears old (h.before ++ (Sent (Q.wanted q).frame ∷ h.last.heard)) new)
+        × Holds (EndsBy (Q.wanted q)) (Ended.Answer answer) all.shown new.ear }
+    ensures stops { (q : Q) (limits : Limits) (old new : Listening) (a b : Link)
+        (h : Stops (Q.wanted q) limits old a new b)
         → (all : Hears old (h.before ++ h.rest) new) × NoneShows (EndsBy (Q.wanted q)) all.shown }
 {}
 
 /// What was heard since the stream began is what was judged, and what waits: after a request as before it.
 pub fn law_listening<Q: Question>()
-    ensures asks { (q : Q) (limits : Limits) (old new : Listening) (a b : Link) (outcome : Outcome Q.Answer)
+    ensures asks { (q : Q) (limits : Limits) (old new : Listening) (a b : Link)
+        (outcome : Outcome Q.Answer)
         (h : Asks (Q.wanted q) limits old a outcome new b)
         (all : Hears old (h.before ++ (Sent (Q.wanted q).frame ∷ h.last.heard)) new) (judged : List ℕ)
         → IsListening a judged old.inbox → IsListening b (judged ++ all.pushed) new.inbox }
-    ensures stops { (q : Q) (limits : Limits) (old new : Listening) (a b : Link) (h : Stops (Q.wanted q) limits old a new b)
+    ensures stops { (q : Q) (limits : Limits) (old new : Listening) (a b : Link)
+        (h : Stops (Q.wanted q) limits old a new b)
         (all : Hears old (h.before ++ h.rest) new) (judged : List ℕ)
         → IsListening a judged old.inbox → IsListening b (judged ++ all.pushed) new.inbox }
 {}
@@ -40,13 +47,15 @@ pub fn law_listening<Q: Question>()
 /// A request of a listener that stands for these bytes is one of their stream: all that its contract says is said in
 /// the bytes and the verdicts of the stream, and the listener stands for the bytes that were judged then.
 pub fn law_stream<Q: Question>()
-    ensures asks { (q : Q) (limits : Limits) (old new : Listening) (a b : Link) (outcome : Outcome Q.Answer)
+    ensures asks { (q : Q) (limits : Limits) (old new : Listening) (a b : Link)
+        (outcome : Outcome Q.Answer)
         (judged : List ℕ) → StandsFor old.ear judged
         → (h : Asks (Q.wanted q) limits old a outcome new b)
         → (after : List ℕ) × StandsFor new.ear after
         × AsksOn (Q.wanted q) limits (record { judged = judged; waiting = old.inbox })
         (h.before ++ (Sent (Q.wanted q).frame ∷ h.last.heard)) outcome (record { judged = after; waiting = new.inbox }) }
-    ensures stops { (q : Q) (limits : Limits) (old new : Listening) (a b : Link) (judged : List ℕ) → StandsFor old.ear judged
+    ensures stops { (q : Q) (limits : Limits) (old new : Listening) (a b : Link) (judged : List ℕ)
+        → StandsFor old.ear judged
         → (h : Stops (Q.wanted q) limits old a new b)
         → (after : List ℕ) × StandsFor new.ear after
         × StopsOn (Q.wanted q) limits (record { judged = judged; waiting = old.inbox })

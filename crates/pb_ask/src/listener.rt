@@ -61,7 +61,8 @@ impl Listener {
             (S.view site.new).link) }
         ensures stops { OnErr result
             (Stops (Q.wanted question.now) limits self.old (S.view site.old).link self.new (S.view site.new).link) }
-        ensures passes { Passes (Q.wanted question.now).frame limits.sends (S.view site.old) (S.view site.new) }
+        ensures passes { Passes (Q.wanted question.now).frame limits.sends (S.view site.old)
+            (S.view site.new) }
         ensures cause { HasCause (S.view site.old).link.faults (S.view site.new).link.faults result }
         ensures count { self.new.ear.count ≤ self.old.ear.count + 2 ^ 25 }
     {
@@ -92,7 +93,8 @@ impl Listener {
         exchange: &mut Exchange,
         question: &Q,
     ) -> Result<Option<Outcome<Q::Answer>>, Failed>
-        requires begun { exchange.old ≡ after_sending (Q.wanted question.now).asked exchange.old.limits exchange.old.sent }
+        requires begun { exchange.old ≡ after_sending (Q.wanted question.now).asked
+            exchange.old.limits exchange.old.sent }
         requires sent { 1 ≤ exchange.old.sent }
         requires some { 1 ≤ exchange.old.limits.quiets }
         requires quiets { exchange.old.limits.quiets ≤ 65535 }
@@ -131,7 +133,8 @@ impl Listener {
     ) -> Option<Ended<Q::Answer>>
         requires count { self.old.ear.count + 4096 ≤ 2 ^ 62 }
         requires asked { exchange.old.asked ≡ (Q.wanted question.now).asked }
-        ensures judged { Judged (EndsBy (Q.wanted question.now)) self.old exchange.old result self.new exchange.new }
+        ensures judged { Judged (EndsBy (Q.wanted question.now)) self.old exchange.old result self.new
+            exchange.new }
         ensures room { length self.old.inbox ≤ 4096 }
         ensures all { result ≡ None → self.new.inbox ≡ [] }
         ensures still { length self.old.inbox ≡ 0 → exchange.new ≡ exchange.old }
@@ -156,7 +159,8 @@ impl Listener {
         requires some { 0 < length self.old.inbox }
         requires count { self.old.ear.count + length self.old.inbox ≤ 2 ^ 62 }
         requires asked { exchange.old.asked ≡ (Q.wanted question.now).asked }
-        ensures judged { Judged (EndsBy (Q.wanted question.now)) self.old exchange.old result self.new exchange.new }
+        ensures judged { Judged (EndsBy (Q.wanted question.now)) self.old exchange.old result self.new
+            exchange.new }
         ensures some { length self.new.inbox < length self.old.inbox }
     {
         let bytes = self.inbox.bytes();

@@ -46,6 +46,7 @@ pub trait Question {
 
     /// The answer that the message of a reply means; `None` where it means none and is passed over.
     fn judge(&self, message: &[u8]) -> Option<Self::Answer>
-        ensures { MatchOption result ((answer : Self.Answer) → (wanted self.now).takes answer message.now → ⊥)
+        ensures { MatchOption result ((answer : Self.Answer)
+            → (wanted self.now).takes answer message.now → ⊥)
             (λ answer. (wanted self.now).takes answer message.now) };
 }

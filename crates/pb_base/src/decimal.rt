@@ -4,7 +4,8 @@ ghost use Rattle.std.specs.Prelude.{◌≡◌, ℕ, ◌<◌, ◌^◌, MatchOptio
 /// The number below 2^32 that a word writes in decimal digits: without a sign, and without a leading zero but in `0` itself.
 /// `None` where no number is written so.
 pub fn parse_decimal(word: &[u8]) -> Option<u32>
-    ensures { MatchOption result ((n : ℕ) → n < 2 ^ 32 → word.now ≡ decimal n → ⊥) (λ n. word.now ≡ decimal n) }
+    ensures { MatchOption result ((n : ℕ) → n < 2 ^ 32 → word.now ≡ decimal n → ⊥)
+        (λ n. word.now ≡ decimal n) }
 {
     let text = match std::str::from_utf8(word) {
         Ok(text) => text,

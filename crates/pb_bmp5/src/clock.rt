@@ -20,8 +20,10 @@ pub(crate) fn read_clock<'a>(tran: u8, keys: &mut Keys<'a>) -> Result<Bmp5<'a>, 
 }
 
 pub(crate) fn write_clock(tran: u8, code: u16, adjust: Nsec, out: &mut [u8]) -> Result<usize, Full>
-    ensures written { IfOk result (IsWritten (message_bytes (message_of (bmp5.Clock tran code adjust))) out.old out.new) }
-    ensures full { OnErr result (DoesNotFit (message_bytes (message_of (bmp5.Clock tran code adjust))) out.old out.new) }
+    ensures written { IfOk result (IsWritten (message_bytes
+        (message_of (bmp5.Clock tran code adjust))) out.old out.new) }
+    ensures full { OnErr result (DoesNotFit (message_bytes (message_of (bmp5.Clock tran code adjust)))
+        out.old out.new) }
     ensures in_range { InRange (message_of (bmp5.Clock tran code adjust)) }
 {
     let pieces = [
@@ -51,8 +53,10 @@ pub(crate) fn write_clock_reply(
     time: Nsec,
     out: &mut [u8],
 ) -> Result<usize, Full>
-    ensures written { IfOk result (IsWritten (message_bytes (message_of (bmp5.ClockReply tran resp time))) out.old out.new) }
-    ensures full { OnErr result (DoesNotFit (message_bytes (message_of (bmp5.ClockReply tran resp time))) out.old out.new) }
+    ensures written { IfOk result (IsWritten (message_bytes
+        (message_of (bmp5.ClockReply tran resp time))) out.old out.new) }
+    ensures full { OnErr result (DoesNotFit (message_bytes
+        (message_of (bmp5.ClockReply tran resp time))) out.old out.new) }
     ensures in_range { InRange (message_of (bmp5.ClockReply tran resp time)) }
 {
     if resp != 0 {

@@ -31,8 +31,10 @@ pub(crate) fn write_collect_reply(
     bytes: &[u8],
     out: &mut [u8],
 ) -> Result<usize, Full>
-    ensures written { IfOk result (IsWritten (message_bytes (message_of (bmp5.CollectReply tran resp bytes.entry))) out.old out.new) }
-    ensures full { OnErr result (DoesNotFit (message_bytes (message_of (bmp5.CollectReply tran resp bytes.entry))) out.old out.new) }
+    ensures written { IfOk result (IsWritten (message_bytes
+        (message_of (bmp5.CollectReply tran resp bytes.entry))) out.old out.new) }
+    ensures full { OnErr result (DoesNotFit (message_bytes
+        (message_of (bmp5.CollectReply tran resp bytes.entry))) out.old out.new) }
     ensures in_range { InRange (message_of (bmp5.CollectReply tran resp bytes.entry)) }
 {
     if resp != 0 {

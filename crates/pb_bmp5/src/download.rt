@@ -47,7 +47,8 @@ pub(crate) fn write_download<'a>(
     ensures full { OnErr result
         (DoesNotFit (message_bytes (message_of (bmp5.Download tran code name.entry attr close offset bytes.entry)))
         out.old out.new) }
-    ensures in_range { InRange (message_of (bmp5.Download tran code name.entry attr close offset bytes.entry)) }
+    ensures in_range { InRange (message_of (bmp5.Download tran code name.entry attr close offset
+        bytes.entry)) }
 {
     let pieces = [
         Piece::Byte(DOWNLOAD),
@@ -83,8 +84,10 @@ pub(crate) fn write_download_reply(
     offset: u32,
     out: &mut [u8],
 ) -> Result<usize, Full>
-    ensures written { IfOk result (IsWritten (message_bytes (message_of (bmp5.DownloadReply tran resp offset))) out.old out.new) }
-    ensures full { OnErr result (DoesNotFit (message_bytes (message_of (bmp5.DownloadReply tran resp offset))) out.old out.new) }
+    ensures written { IfOk result (IsWritten (message_bytes
+        (message_of (bmp5.DownloadReply tran resp offset))) out.old out.new) }
+    ensures full { OnErr result (DoesNotFit (message_bytes
+        (message_of (bmp5.DownloadReply tran resp offset))) out.old out.new) }
     ensures in_range { InRange (message_of (bmp5.DownloadReply tran resp offset)) }
 {
     if resp != 0 {

@@ -19,8 +19,10 @@ pub(crate) fn read_stats<'a>(tran: u8, keys: &mut Keys<'a>) -> Result<Bmp5<'a>, 
 }
 
 pub(crate) fn write_stats(tran: u8, code: u16, out: &mut [u8]) -> Result<usize, Full>
-    ensures written { IfOk result (IsWritten (message_bytes (message_of (bmp5.Stats tran code))) out.old out.new) }
-    ensures full { OnErr result (DoesNotFit (message_bytes (message_of (bmp5.Stats tran code))) out.old out.new) }
+    ensures written { IfOk result (IsWritten (message_bytes (message_of (bmp5.Stats tran code)))
+        out.old out.new) }
+    ensures full { OnErr result (DoesNotFit (message_bytes (message_of (bmp5.Stats tran code)))
+        out.old out.new) }
     ensures in_range { InRange (message_of (bmp5.Stats tran code)) }
 {
     let pieces = [Piece::Byte(STATS), Piece::Byte(tran), Piece::Half(code)];
@@ -91,9 +93,11 @@ pub(crate) fn write_stats_reply<'a>(
     result_text: &'a [u8],
     out: &mut [u8],
 ) -> Result<usize, Full>
-    ensures written { IfOk result (IsWritten (message_bytes (message_of (bmp5.StatsReply tran resp osver.entry ossig serial.entry
+    ensures written { IfOk result (IsWritten (message_bytes
+        (message_of (bmp5.StatsReply tran resp osver.entry ossig serial.entry
         powerup.entry state prog.entry progsig time result_text.entry))) out.old out.new) }
-    ensures full { OnErr result (DoesNotFit (message_bytes (message_of (bmp5.StatsReply tran resp osver.entry ossig serial.entry
+    ensures full { OnErr result (DoesNotFit (message_bytes
+        (message_of (bmp5.StatsReply tran resp osver.entry ossig serial.entry
         powerup.entry state prog.entry progsig time result_text.entry))) out.old out.new) }
     ensures in_range { InRange (message_of (bmp5.StatsReply tran resp osver.entry ossig serial.entry
         powerup.entry state prog.entry progsig time result_text.entry)) }

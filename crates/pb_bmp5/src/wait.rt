@@ -23,8 +23,10 @@ pub(crate) fn read_wait<'a>(tran: u8, keys: &mut Keys<'a>) -> Result<Bmp5<'a>, M
 }
 
 pub(crate) fn write_wait(tran: u8, kind: u8, seconds: u16, out: &mut [u8]) -> Result<usize, Full>
-    ensures written { IfOk result (IsWritten (message_bytes (message_of (bmp5.Wait tran kind seconds))) out.old out.new) }
-    ensures full { OnErr result (DoesNotFit (message_bytes (message_of (bmp5.Wait tran kind seconds))) out.old out.new) }
+    ensures written { IfOk result (IsWritten (message_bytes
+        (message_of (bmp5.Wait tran kind seconds))) out.old out.new) }
+    ensures full { OnErr result (DoesNotFit (message_bytes (message_of (bmp5.Wait tran kind seconds)))
+        out.old out.new) }
     ensures in_range { InRange (message_of (bmp5.Wait tran kind seconds)) }
 {
     let pieces = [

@@ -25,11 +25,14 @@ pub(crate) fn ask<S: Site>(
     requires count { listener.old.ear.count ≤ 2 ^ 61 }
     requires allowed { IsAllowedIn (S.view site.old) command.now }
     requires listens { Listens listener.old (S.view site.old).link }
-    ensures asks { IfOk result (λ outcome. Asks (wanted_reply command.now) limits listener.old (S.view site.old).link outcome listener.new (S.view site.new).link) }
-    ensures stops { OnErr result (Stops (wanted_reply command.now) limits listener.old (S.view site.old).link listener.new (S.view site.new).link) }
+    ensures asks { IfOk result (λ outcome. Asks (wanted_reply command.now) limits listener.old
+        (S.view site.old).link outcome listener.new (S.view site.new).link) }
+    ensures stops { OnErr result (Stops (wanted_reply command.now) limits listener.old
+        (S.view site.old).link listener.new (S.view site.new).link) }
     ensures once { AsksOnce command.now }
     ensures listens { OnOk result (Listens listener.new (S.view site.new).link) }
-    ensures heard { IfOk result (λ outcome. HeardBy command.now outcome listener.new (S.view site.new).link) }
+    ensures heard { IfOk result (λ outcome. HeardBy command.now outcome listener.new
+        (S.view site.new).link) }
     ensures keeps { Keeps (S.view site.old) (S.view site.new) }
     ensures disk { ReadsOnly (S.view site.old) (S.view site.new) }
     ensures disk_faults { (S.view site.new).faults ≡ (S.view site.old).faults }

@@ -108,7 +108,8 @@ impl Collector {
         requires usable { self.old.ended ≡ false }
         ensures result { RoundIs result self.new.outcomes (length self.new.archive.tables) }
         ensures order { AreInOrder 0 self.new.outcomes }
-        ensures reaches { Reaches self.new.outcomes (register_of self.old.archive) (register_of self.new.archive) }
+        ensures reaches { Reaches self.new.outcomes (register_of self.old.archive)
+            (register_of self.new.archive) }
         ensures asks { AsksBy result limits (register_of self.old.archive) self.new.outcomes
             (S.view site.old).link (S.view site.new).link }
         ensures fronts { FrontsStand self.new.outcomes (S.view site.new) }
@@ -116,7 +117,8 @@ impl Collector {
         ensures opened { self.new.ended ≡ false → IsOpen self.new.archive (S.view site.new) }
         ensures ended { IsEndedBy result self.new.ended }
         ensures counts { CountsOf result (S.view site.old) (S.view site.new) }
-        ensures complete { Completes result limits.budget (register_of self.old.archive) self.new.outcomes (S.view site.old) (S.view site.new) }
+        ensures complete { Completes result limits.budget (register_of self.old.archive)
+            self.new.outcomes (S.view site.old) (S.view site.new) }
     {
         law_limits();
         law_quoted();
@@ -153,16 +155,21 @@ impl Collector {
         requires opened { IsOpen self.old.archive (S.view site.old) }
         requires usable { self.old.ended ≡ false }
         ensures fetched { OnOk result ((lines : List Line) × (report.new.lines ≡ report.old.lines ++ lines)
-            × Fetched limits lines (S.view site.old).link (S.view site.new).link (register_of self.old.archive)
+            × Fetched limits lines (S.view site.old).link (S.view site.new).link
+            (register_of self.old.archive)
             (register_of self.new.archive)) }
-        ensures until { IfErr result (λ fault. (lines : List Line) × (report.new.lines ≡ report.old.lines ++ lines)
-            × FetchedUntil fault limits lines (S.view site.old).link (S.view site.new).link (register_of self.old.archive)
+        ensures until { IfErr result (λ fault. (lines : List Line)
+            × (report.new.lines ≡ report.old.lines ++ lines)
+            × FetchedUntil fault limits lines (S.view site.old).link (S.view site.new).link
+            (register_of self.old.archive)
             (register_of self.new.archive)) }
-        ensures stand { (lines : List Line) → report.new.lines ≡ report.old.lines ++ lines → AddedStand lines (S.view site.new) }
+        ensures stand { (lines : List Line) → report.new.lines ≡ report.old.lines ++ lines
+            → AddedStand lines (S.view site.new) }
         ensures holds { HoldsAtLeast (register_of self.new.archive) (S.view site.new) }
         ensures adds { Adds (S.view site.old) (S.view site.new) }
         ensures goes { OnOk result (Goes self.new.archive (S.view site.old) (S.view site.new)) }
-        ensures fault { IfErr result (λ fault. FaultLeaves fault self.new.archive (S.view site.old) (S.view site.new)) }
+        ensures fault { IfErr result (λ fault. FaultLeaves fault self.new.archive (S.view site.old)
+            (S.view site.new)) }
         ensures usable { OnOk result (self.new.ended ≡ false) }
         ensures ended { IfErr result (λ fault. EndedByFault fault self.new.ended) }
         ensures outcomes { self.new.outcomes ≡ self.old.outcomes }
@@ -250,14 +257,18 @@ fn collect_tables<S: Site>(
     ensures short { OnErr result (length outcomes.new.items < length archive.new.tables) }
     ensures order { AreInOrder 0 outcomes.new.items }
     ensures reaches { Reaches outcomes.new.items (register_of archive.old) (register_of archive.new) }
-    ensures asks { OnOk result (Asks limits (register_of archive.old) outcomes.new.items (S.view site.old).link (S.view site.new).link) }
-    ensures breaks { IfErr result (λ broken. AsksUntil broken limits (register_of archive.old) outcomes.new.items (S.view site.old).link (S.view site.new).link) }
+    ensures asks { OnOk result (Asks limits (register_of archive.old) outcomes.new.items
+        (S.view site.old).link (S.view site.new).link) }
+    ensures breaks { IfErr result (λ broken. AsksUntil broken limits (register_of archive.old)
+        outcomes.new.items (S.view site.old).link (S.view site.new).link) }
     ensures fronts { FrontsStand outcomes.new.items (S.view site.new) }
     ensures opened { OnOk result (IsOpen archive.new (S.view site.new)) }
     ensures usable { OnOk result (NeedsOpening archive.new false) }
     ensures keeps { Keeps (S.view site.old) (S.view site.new) }
-    ensures broken { IfErr result (λ broken. BrokenBy broken archive.new (S.view site.old) (S.view site.new)) }
-    ensures faults { OnOk result (((S.view site.new).faults ≡ (S.view site.old).faults) × ((S.view site.new).link.faults ≡ (S.view site.old).link.faults)) }
+    ensures broken { IfErr result (λ broken. BrokenBy broken archive.new (S.view site.old)
+        (S.view site.new)) }
+    ensures faults { OnOk result (((S.view site.new).faults ≡ (S.view site.old).faults)
+        × ((S.view site.new).link.faults ≡ (S.view site.old).link.faults)) }
 {
     let mut listener = Listener::new();
     'tables: while outcomes.len() < usize::from(archive.tables()) {

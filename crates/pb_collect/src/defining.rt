@@ -34,8 +34,10 @@ fn place_of(archive: &Archive, station: u8, number: TableNo) -> Option<TableId>
 // Whether the table of this place, which is there, is the station's of this number.
 fn has_number(archive: &Archive, id: TableId, station: u8, number: TableNo) -> bool
     requires { id.0 < length archive.now.tables }
-    ensures yes { result ≡ true → (held : Held) × IsAt (register_of archive.now) station number.0 id.0 held }
-    ensures no { result ≡ false → (held : Held) → slice_get archive.now.tables id.0 ≡ Some held → IsOther station number.0 held }
+    ensures yes { result ≡ true → (held : Held)
+        × IsAt (register_of archive.now) station number.0 id.0 held }
+    ensures no { result ≡ false → (held : Held) → slice_get archive.now.tables id.0 ≡ Some held
+        → IsOther station number.0 held }
 {
     match archive.table(id) {
         Some(view) => view.station == station && view.number == number,
@@ -58,7 +60,8 @@ fn compare<D: Disk>(
         → Treats station number t what (register_of archive.old) (register_of archive.new)) }
     ensures stays { OnErr result (register_of archive.new ≡ register_of archive.old) }
     ensures goes { OnOk result (Goes archive.new (D.view disk.old) (D.view disk.new)) }
-    ensures fault { IfErr result (λ fault. DiskLeaves fault archive.new (D.view disk.old) (D.view disk.new)) }
+    ensures fault { IfErr result (λ fault. DiskLeaves fault archive.new (D.view disk.old)
+        (D.view disk.new)) }
     ensures holds { HoldsAtLeast (register_of archive.new) (D.view disk.new) }
     ensures adds { Adds (D.view disk.old) (D.view disk.new) }
     ensures link { (D.view disk.new).link ≡ (D.view disk.old).link }
@@ -95,7 +98,8 @@ fn add<D: Disk>(
         (register_of archive.new)) }
     ensures stays { OnErr result (register_of archive.new ≡ register_of archive.old) }
     ensures goes { OnOk result (Goes archive.new (D.view disk.old) (D.view disk.new)) }
-    ensures fault { IfErr result (λ fault. DiskLeaves fault archive.new (D.view disk.old) (D.view disk.new)) }
+    ensures fault { IfErr result (λ fault. DiskLeaves fault archive.new (D.view disk.old)
+        (D.view disk.new)) }
     ensures holds { HoldsAtLeast (register_of archive.new) (D.view disk.new) }
     ensures adds { Adds (D.view disk.old) (D.view disk.new) }
     ensures link { (D.view disk.new).link ≡ (D.view disk.old).link }
@@ -128,7 +132,8 @@ fn treat<D: Disk>(
         (register_of archive.new)) }
     ensures stays { OnErr result (register_of archive.new ≡ register_of archive.old) }
     ensures goes { OnOk result (Goes archive.new (D.view disk.old) (D.view disk.new)) }
-    ensures fault { IfErr result (λ fault. DiskLeaves fault archive.new (D.view disk.old) (D.view disk.new)) }
+    ensures fault { IfErr result (λ fault. DiskLeaves fault archive.new (D.view disk.old)
+        (D.view disk.new)) }
     ensures holds { HoldsAtLeast (register_of archive.new) (D.view disk.new) }
     ensures adds { Adds (D.view disk.old) (D.view disk.new) }
     ensures link { (D.view disk.new).link ≡ (D.view disk.old).link }
@@ -160,7 +165,8 @@ fn define<D: Disk>(
     ensures lines { OnErr result (report.new.lines ≡ report.old.lines) }
     ensures stays { OnErr result (register_of archive.new ≡ register_of archive.old) }
     ensures goes { OnOk result (Goes archive.new (D.view disk.old) (D.view disk.new)) }
-    ensures fault { IfErr result (λ fault. DiskLeaves fault archive.new (D.view disk.old) (D.view disk.new)) }
+    ensures fault { IfErr result (λ fault. DiskLeaves fault archive.new (D.view disk.old)
+        (D.view disk.new)) }
     ensures holds { HoldsAtLeast (register_of archive.new) (D.view disk.new) }
     ensures adds { Adds (D.view disk.old) (D.view disk.new) }
     ensures link { (D.view disk.new).link ≡ (D.view disk.old).link }
@@ -199,11 +205,15 @@ pub(crate) fn define_all<D: Disk>(
     requires opened { IsOpen archive.old (D.view disk.old) }
     requires usable { NeedsOpening archive.old false }
     ensures came { OnOk result ((lines : List Line) × (report.new.lines ≡ report.old.lines ++ lines)
-        × TablesCame station definitions.now (length definitions.now) lines (register_of archive.old) (register_of archive.new)) }
-    ensures begun { OnErr result ((lines : List Line) × (n : ℕ) × (report.new.lines ≡ report.old.lines ++ lines)
-        × (n < length definitions.now) × TablesCame station definitions.now n lines (register_of archive.old) (register_of archive.new)) }
+        × TablesCame station definitions.now (length definitions.now) lines (register_of archive.old)
+        (register_of archive.new)) }
+    ensures begun { OnErr result ((lines : List Line) × (n : ℕ)
+        × (report.new.lines ≡ report.old.lines ++ lines)
+        × (n < length definitions.now) × TablesCame station definitions.now n lines
+        (register_of archive.old) (register_of archive.new)) }
     ensures goes { OnOk result (Goes archive.new (D.view disk.old) (D.view disk.new)) }
-    ensures fault { IfErr result (λ fault. DiskLeaves fault archive.new (D.view disk.old) (D.view disk.new)) }
+    ensures fault { IfErr result (λ fault. DiskLeaves fault archive.new (D.view disk.old)
+        (D.view disk.new)) }
     ensures holds { HoldsAtLeast (register_of archive.new) (D.view disk.new) }
     ensures adds { Adds (D.view disk.old) (D.view disk.new) }
     ensures link { (D.view disk.new).link ≡ (D.view disk.old).link }

@@ -56,7 +56,8 @@ fn take_heard<D: Disk>(
     ensures opened { OnOk result (IsOpen archive.new (D.view disk.new)) }
     ensures usable { OnOk result (NeedsOpening archive.new false) }
     ensures keeps { (reply : SeenReply) → ReadsNow command.now listener.now reply
-        → KeepsWhere (KnowsTrue (D.view disk.old) id.0 (partial_bytes progress.old) reply.fragments) (D.view disk.old) (D.view disk.new) }
+        → KeepsWhere (KnowsTrue (D.view disk.old) id.0 (partial_bytes progress.old) reply.fragments)
+        (D.view disk.old) (D.view disk.new) }
     ensures knows { OnOk result ((reply : SeenReply) → ReadsNow command.now listener.now reply
         → KnowsTrue (D.view disk.old) id.0 (partial_bytes progress.old) reply.fragments
         → KnowsTrue (D.view disk.new) id.0 (partial_bytes progress.new) []) }
@@ -94,8 +95,10 @@ fn settle<D: Disk>(
     ensures ready { OnOk result (IsReady archive.new id.0 progress.new) }
     ensures opened { OnOk result (IsOpen archive.new (D.view disk.new)) }
     ensures usable { OnOk result (NeedsOpening archive.new false) }
-    ensures keeps { KeepsWhere (TeachesTrue command.now listener.now (D.view disk.old) id.0 progress.old outcome.now) (D.view disk.old) (D.view disk.new) }
-    ensures knows { OnOk result (TeachesTrue command.now listener.now (D.view disk.old) id.0 progress.old outcome.now
+    ensures keeps { KeepsWhere (TeachesTrue command.now listener.now (D.view disk.old) id.0
+        progress.old outcome.now) (D.view disk.old) (D.view disk.new) }
+    ensures knows { OnOk result (TeachesTrue command.now listener.now (D.view disk.old) id.0
+        progress.old outcome.now
         → KnowsTrue (D.view disk.old) id.0 (partial_bytes progress.old) []
         → KnowsTrue (D.view disk.new) id.0 (partial_bytes progress.new) []) }
     ensures changes { ChangesOnly id.0 (register_of archive.old) (register_of archive.new) }
@@ -137,20 +140,25 @@ pub(crate) fn exchange<S: Site>(
     requires ready { IsReady archive.old id.0 progress.old }
     requires opened { IsOpen archive.old (S.view site.old) }
     requires usable { NeedsOpening archive.old false }
-    ensures exchanged { IfOk result (λ next. Exchanged command.now limits listener.old (S.view site.old).link progress.old next
+    ensures exchanged { IfOk result (λ next. Exchanged command.now limits listener.old
+        (S.view site.old).link progress.old next
         listener.new (S.view site.new).link progress.new) }
-    ensures breaks { IfErr result (λ broken. BreaksBy broken command.now limits listener.old (S.view site.old).link (S.view site.new).link) }
+    ensures breaks { IfErr result (λ broken. BreaksBy broken command.now limits listener.old
+        (S.view site.old).link (S.view site.new).link) }
     ensures ready { OnOk result (IsReady archive.new id.0 progress.new) }
     ensures opened { OnOk result (IsOpen archive.new (S.view site.new)) }
     ensures usable { OnOk result (NeedsOpening archive.new false) }
     ensures listens { OnOk result (Listens listener.new (S.view site.new).link) }
-    ensures keeps { KeepsHonest (KnowsTrue (S.view site.old) id.0 (partial_bytes progress.old) []) (S.view site.old) (S.view site.new) }
+    ensures keeps { KeepsHonest (KnowsTrue (S.view site.old) id.0 (partial_bytes progress.old) [])
+        (S.view site.old) (S.view site.new) }
     ensures knows { OnOk result (KnowsTrue (S.view site.old) id.0 (partial_bytes progress.old) []
         → AreGood (S.view site.old) → HonestFrom (S.view site.old) (S.view site.new)
         → KnowsTrue (S.view site.new) id.0 (partial_bytes progress.new) []) }
     ensures changes { ChangesOnly id.0 (register_of archive.old) (register_of archive.new) }
-    ensures broken { IfErr result (λ broken. BrokenBy broken archive.new (S.view site.old) (S.view site.new)) }
-    ensures faults { OnOk result (((S.view site.new).faults ≡ (S.view site.old).faults) × ((S.view site.new).link.faults ≡ (S.view site.old).link.faults)) }
+    ensures broken { IfErr result (λ broken. BrokenBy broken archive.new (S.view site.old)
+        (S.view site.new)) }
+    ensures faults { OnOk result (((S.view site.new).faults ≡ (S.view site.old).faults)
+        × ((S.view site.new).link.faults ≡ (S.view site.old).link.faults)) }
     ensures count { listener.new.ear.count ≤ listener.old.ear.count + 2 ^ 25 }
 {
     good_pieces_end_streams();

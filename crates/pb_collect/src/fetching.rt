@@ -84,10 +84,12 @@ fn read_file<D: Disk>(
     requires usable { NeedsOpening archive.old false }
     ensures reads { OnOk result ((lines : List Line) × (report.new.lines ≡ report.old.lines ++ lines)
         × FileReads station file.now lines (register_of archive.old) (register_of archive.new)) }
-    ensures stops { IfErr result (λ fault. (lines : List Line) × (report.new.lines ≡ report.old.lines ++ lines)
+    ensures stops { IfErr result (λ fault. (lines : List Line)
+        × (report.new.lines ≡ report.old.lines ++ lines)
         × FileStops fault station file.now lines (register_of archive.old) (register_of archive.new)) }
     ensures goes { OnOk result (Goes archive.new (D.view disk.old) (D.view disk.new)) }
-    ensures fault { IfErr result (λ fault. DiskLeaves fault archive.new (D.view disk.old) (D.view disk.new)) }
+    ensures fault { IfErr result (λ fault. DiskLeaves fault archive.new (D.view disk.old)
+        (D.view disk.new)) }
     ensures holds { HoldsAtLeast (register_of archive.new) (D.view disk.new) }
     ensures adds { Adds (D.view disk.old) (D.view disk.new) }
     ensures link { (D.view disk.new).link ≡ (D.view disk.old).link }
@@ -123,12 +125,15 @@ fn fetch_station<S: Site>(
     ensures came { OnOk result ((lines : List Line) × (report.new.lines ≡ report.old.lines ++ lines)
         × StationCame limits archive.old.plan station lines (channel listener.old (S.view site.old).link)
         (channel listener.new (S.view site.new).link) (register_of archive.old) (register_of archive.new)) }
-    ensures stops { IfErr result (λ fault. (lines : List Line) × (report.new.lines ≡ report.old.lines ++ lines)
-        × StationStops fault limits archive.old.plan station lines (channel listener.old (S.view site.old).link)
+    ensures stops { IfErr result (λ fault. (lines : List Line)
+        × (report.new.lines ≡ report.old.lines ++ lines)
+        × StationStops fault limits archive.old.plan station lines
+        (channel listener.old (S.view site.old).link)
         (S.view site.new).link (register_of archive.old) (register_of archive.new)) }
     ensures room { vec_capacity file.old ≤ vec_capacity file.new }
     ensures goes { OnOk result (Goes archive.new (S.view site.old) (S.view site.new)) }
-    ensures fault { IfErr result (λ fault. FaultLeaves fault archive.new (S.view site.old) (S.view site.new)) }
+    ensures fault { IfErr result (λ fault. FaultLeaves fault archive.new (S.view site.old)
+        (S.view site.new)) }
     ensures holds { HoldsAtLeast (register_of archive.new) (S.view site.new) }
     ensures adds { Adds (S.view site.old) (S.view site.new) }
     ensures count { listener.new.ear.count ≤ listener.old.ear.count + 2 ^ 44 }
@@ -159,11 +164,14 @@ pub(crate) fn fetch_all<S: Site>(
     ensures fetched { OnOk result ((lines : List Line) × (report.new.lines ≡ report.old.lines ++ lines)
         × Fetched limits lines (S.view site.old).link (S.view site.new).link (register_of archive.old)
         (register_of archive.new)) }
-    ensures until { IfErr result (λ fault. (lines : List Line) × (report.new.lines ≡ report.old.lines ++ lines)
-        × FetchedUntil fault limits lines (S.view site.old).link (S.view site.new).link (register_of archive.old)
+    ensures until { IfErr result (λ fault. (lines : List Line)
+        × (report.new.lines ≡ report.old.lines ++ lines)
+        × FetchedUntil fault limits lines (S.view site.old).link (S.view site.new).link
+        (register_of archive.old)
         (register_of archive.new)) }
     ensures goes { OnOk result (Goes archive.new (S.view site.old) (S.view site.new)) }
-    ensures fault { IfErr result (λ fault. FaultLeaves fault archive.new (S.view site.old) (S.view site.new)) }
+    ensures fault { IfErr result (λ fault. FaultLeaves fault archive.new (S.view site.old)
+        (S.view site.new)) }
     ensures holds { HoldsAtLeast (register_of archive.new) (S.view site.new) }
     ensures adds { Adds (S.view site.old) (S.view site.new) }
 {

@@ -11,14 +11,18 @@ ghost use Rattle.pb_collect.specs.Progress.{Progress, IsAt, question, Fits, CanT
 /// The fragments of a reply that was read and fits what is asked can be taken one after the other; and the reply fits what
 /// is known.
 pub fn answers_can_be_taken()
-    ensures taken { (p : Progress) (table : ℕ) (reply : SeenReply) (message : List ℕ) → CollectReads table p.layout reply message
+    ensures taken { (p : Progress) (table : ℕ) (reply : SeenReply) (message : List ℕ)
+        → CollectReads table p.layout reply message
         → reply.resp ≡ 0 → Fits (question p) reply → CanTakeAll p reply.fragments }
-    ensures known { (p : Progress) (k : Known) (reply : SeenReply) → IsAt p k → reply.resp ≡ 0 → Fits (question p) reply
+    ensures known { (p : Progress) (k : Known) (reply : SeenReply) → IsAt p k → reply.resp ≡ 0
+        → Fits (question p) reply
         → FitsKnown k reply.fragments }
 {}
 
 /// What is asked is asked from the front or below, and what is known stays so with the next request.
 pub fn questions_are_allowed()
-    ensures below { (p : Progress) (k : Known) → IsAt p k → AsksFromAtMost (front k.table) (asked_mode (question p)) }
-    ensures next { (p : Progress) (k : Known) → IsAt p k → IsAt (asked_once_more (kept_partial p)) (known_after p k) }
+    ensures below { (p : Progress) (k : Known) → IsAt p k
+        → AsksFromAtMost (front k.table) (asked_mode (question p)) }
+    ensures next { (p : Progress) (k : Known) → IsAt p k
+        → IsAt (asked_once_more (kept_partial p)) (known_after p k) }
 {}

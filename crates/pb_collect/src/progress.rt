@@ -99,8 +99,10 @@ impl Progress {
     pub fn take<'a>(&mut self, fragment: &Fragment<'a>) -> Effects<'a>
         requires { specs.CanTake self.old (seen_of fragment.now) }
         ensures effects { (k : Known) → specs.IsAt self.old k
-            → specs.advances_in self.old.layout self.new.joined result ≡ advances self.old.layout k (seen_of fragment.now) }
-        ensures known { (k : Known) → specs.IsAt self.old k → specs.IsAt self.new (taken self.old.layout k (seen_of fragment.now)) }
+            → specs.advances_in self.old.layout self.new.joined result
+            ≡ advances self.old.layout k (seen_of fragment.now) }
+        ensures known { (k : Known) → specs.IsAt self.old k
+            → specs.IsAt self.new (taken self.old.layout k (seen_of fragment.now)) }
         ensures after { self.new ≡ specs.after self.old (seen_of fragment.now) }
         ensures exactly { result ≡ inside.effects_of self.old fragment.now }
     {
@@ -144,8 +146,10 @@ impl Progress {
     // Takes in a part that goes on with the partial record, or begins one.
     fn take_part<'a>(&mut self, number: RecNo, offset: u32, bytes: &[u8]) -> Effects<'a>
         requires { specs.IsNextPart self.old number.0 offset bytes.now }
-        ensures effects { result ≡ inside.part_effects self.old number (specs.partial_bytes self.old ++ bytes.now) }
-        ensures after { self.new ≡ specs.after_bytes self.old number.0 (specs.partial_bytes self.old ++ bytes.now) }
+        ensures effects { result ≡ inside.part_effects self.old number
+            (specs.partial_bytes self.old ++ bytes.now) }
+        ensures after { self.new ≡ specs.after_bytes self.old number.0
+            (specs.partial_bytes self.old ++ bytes.now) }
     {
         let gap = self.gap_before(number);
         if !self.is_partial {

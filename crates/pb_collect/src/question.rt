@@ -117,7 +117,8 @@ impl CollectCommand {
 
     // What a message says that answers the command.
     fn answer_in(&self, message: &[u8]) -> Option<Said>
-        ensures { MatchOption result ((said : Said) → MeansReply self.now said message.now → ⊥) (λ said. MeansReply self.now said message.now) }
+        ensures { MatchOption result ((said : Said) → MeansReply self.now said message.now → ⊥)
+            (λ said. MeansReply self.now said message.now) }
     {
         if message.is_empty() || message[0] != COLLECT_REPLY {
             return None;

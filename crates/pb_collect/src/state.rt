@@ -33,7 +33,8 @@ pub(crate) fn state_of(archive: &Archive, id: TableId) -> State
 /// How the records of a table that is there are cut.
 pub(crate) fn layout_of(archive: &Archive, id: TableId) -> Layout
     requires { id.0 < length archive.now.tables }
-    ensures layout { (held : _) → slice_get archive.now.tables id.0 ≡ Some held → held.table.layout ≡ Ok result }
+    ensures layout { (held : _) → slice_get archive.now.tables id.0 ≡ Some held
+        → held.table.layout ≡ Ok result }
     ensures few { content_len result ≤ content_max }
 {
     let view = archive.table(id).unwrap();

@@ -93,8 +93,10 @@ fn ask_until_end<S: Site>(
     ensures listens { OnOk result (Listens listener.new (S.view site.new).link) }
     ensures keeps { Keeps (S.view site.old) (S.view site.new) }
     ensures changes { ChangesOnly id.0 (register_of archive.old) (register_of archive.new) }
-    ensures broken { IfErr result (λ broken. BrokenBy broken archive.new (S.view site.old) (S.view site.new)) }
-    ensures faults { OnOk result (((S.view site.new).faults ≡ (S.view site.old).faults) × ((S.view site.new).link.faults ≡ (S.view site.old).link.faults)) }
+    ensures broken { IfErr result (λ broken. BrokenBy broken archive.new (S.view site.old)
+        (S.view site.new)) }
+    ensures faults { OnOk result (((S.view site.new).faults ≡ (S.view site.old).faults)
+        × ((S.view site.new).link.faults ≡ (S.view site.old).link.faults)) }
     ensures count { listener.new.ear.count ≤ listener.old.ear.count + 2 ^ 46 }
 {
     let mut mode = progress.ask();
@@ -133,7 +135,8 @@ fn end_of_table<S: Site>(
     requires ready { IsReady archive.old id.0 progress.old }
     requires opened { IsOpen archive.old (S.view site.old) }
     requires usable { NeedsOpening archive.old false }
-    requires signature { (held : _) → slice_get archive.old.tables id.0 ≡ Some held → signature ≡ held.table.signature }
+    requires signature { (held : _) → slice_get archive.old.tables id.0 ≡ Some held
+        → signature ≡ held.table.signature }
     ensures ended { IfOk result (λ end. (held : _) → slice_get archive.old.tables id.0 ≡ Some held
         → EndedBy limits archive.old.plan held progress.new.asked
         (point listener.old (S.view site.old).link (asked_once_more progress.old)) end
@@ -141,8 +144,10 @@ fn end_of_table<S: Site>(
     ensures breaks { IfErr result (λ broken. (held : _) → slice_get archive.old.tables id.0 ≡ Some held
         → BreaksFrom broken limits archive.old.plan held
         (point listener.old (S.view site.old).link (asked_once_more progress.old)) (S.view site.new).link) }
-    ensures front { OnOk result ((held : _) → slice_get archive.new.tables id.0 ≡ Some held → held.front ≡ progress.new.front) }
-    ensures stopped { IfOk result (λ end. (held : _) → slice_get archive.new.tables id.0 ≡ Some held → HasStopOf end held) }
+    ensures front { OnOk result ((held : _) → slice_get archive.new.tables id.0 ≡ Some held
+        → held.front ≡ progress.new.front) }
+    ensures stopped { IfOk result (λ end. (held : _) → slice_get archive.new.tables id.0 ≡ Some held
+        → HasStopOf end held) }
     ensures asked { OnOk result ((1 ≤ progress.new.asked) × (progress.new.asked ≤ limits.budget)) }
     ensures there { OnOk result (id.0 < length archive.new.tables) }
     ensures opened { OnOk result (IsOpen archive.new (S.view site.new)) }
@@ -150,8 +155,10 @@ fn end_of_table<S: Site>(
     ensures listens { OnOk result (Listens listener.new (S.view site.new).link) }
     ensures keeps { Keeps (S.view site.old) (S.view site.new) }
     ensures changes { ChangesOnly id.0 (register_of archive.old) (register_of archive.new) }
-    ensures broken { IfErr result (λ broken. BrokenBy broken archive.new (S.view site.old) (S.view site.new)) }
-    ensures faults { OnOk result (((S.view site.new).faults ≡ (S.view site.old).faults) × ((S.view site.new).link.faults ≡ (S.view site.old).link.faults)) }
+    ensures broken { IfErr result (λ broken. BrokenBy broken archive.new (S.view site.old)
+        (S.view site.new)) }
+    ensures faults { OnOk result (((S.view site.new).faults ≡ (S.view site.old).faults)
+        × ((S.view site.new).link.faults ≡ (S.view site.old).link.faults)) }
     ensures count { listener.new.ear.count ≤ listener.old.ear.count + 2 ^ 46 }
 {
     match ask_until_end(archive, site, listener, progress, tran, limits, id) {
@@ -186,13 +193,15 @@ pub(crate) fn collect_table<S: Site>(
     requires listens { Listens listener.old (S.view site.old).link }
     requires opened { IsOpen archive.old (S.view site.old) }
     requires usable { NeedsOpening archive.old false }
-    ensures came { IfOk result (λ o. (before : _) (after : _) → slice_get archive.old.tables id.0 ≡ Some before
+    ensures came { IfOk result (λ o. (before : _) (after : _)
+        → slice_get archive.old.tables id.0 ≡ Some before
         → slice_get archive.new.tables id.0 ≡ Some after → CameOut id.0 before after o) }
     ensures ends { IfOk result (λ o. (held : _) → slice_get archive.old.tables id.0 ≡ Some held
         → EndsBy limits archive.old.plan held o (channel listener.old (S.view site.old).link)
         (channel listener.new (S.view site.new).link)) }
     ensures breaks { IfErr result (λ broken. (held : _) → slice_get archive.old.tables id.0 ≡ Some held
-        → BreaksOff broken limits archive.old.plan held (channel listener.old (S.view site.old).link) (S.view site.new).link) }
+        → BreaksOff broken limits archive.old.plan held (channel listener.old (S.view site.old).link)
+        (S.view site.new).link) }
     ensures table { IfOk result (λ o. o.table ≡ id) }
     ensures there { OnOk result (id.0 < length archive.new.tables) }
     ensures opened { OnOk result (IsOpen archive.new (S.view site.new)) }
@@ -200,8 +209,10 @@ pub(crate) fn collect_table<S: Site>(
     ensures listens { OnOk result (Listens listener.new (S.view site.new).link) }
     ensures keeps { Keeps (S.view site.old) (S.view site.new) }
     ensures changes { ChangesOnly id.0 (register_of archive.old) (register_of archive.new) }
-    ensures broken { IfErr result (λ broken. BrokenBy broken archive.new (S.view site.old) (S.view site.new)) }
-    ensures faults { OnOk result (((S.view site.new).faults ≡ (S.view site.old).faults) × ((S.view site.new).link.faults ≡ (S.view site.old).link.faults)) }
+    ensures broken { IfErr result (λ broken. BrokenBy broken archive.new (S.view site.old)
+        (S.view site.new)) }
+    ensures faults { OnOk result (((S.view site.new).faults ≡ (S.view site.old).faults)
+        × ((S.view site.new).link.faults ≡ (S.view site.old).link.faults)) }
     ensures count { listener.new.ear.count ≤ listener.old.ear.count + 2 ^ 46 }
 {
     let before = state_of(archive, id);

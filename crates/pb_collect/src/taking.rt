@@ -115,8 +115,10 @@ pub(crate) fn take_answer<D: Disk>(
     ensures ready { OnOk result (IsReady archive.new id.0 progress.new) }
     ensures opened { OnOk result (IsOpen archive.new (D.view disk.new)) }
     ensures usable { OnOk result (NeedsOpening archive.new false) }
-    ensures keeps { KeepsWhere (KnowsTrue (D.view disk.old) id.0 (partial_bytes progress.old) fragments.entry) (D.view disk.old) (D.view disk.new) }
-    ensures knows { OnOk result (KnowsTrue (D.view disk.old) id.0 (partial_bytes progress.old) fragments.entry
+    ensures keeps { KeepsWhere (KnowsTrue (D.view disk.old) id.0 (partial_bytes progress.old)
+        fragments.entry) (D.view disk.old) (D.view disk.new) }
+    ensures knows { OnOk result (KnowsTrue (D.view disk.old) id.0 (partial_bytes progress.old)
+        fragments.entry
         → KnowsTrue (D.view disk.new) id.0 (partial_bytes progress.new) []) }
     ensures changes { ChangesOnly id.0 (register_of archive.old) (register_of archive.new) }
     ensures link { (D.view disk.new).link ≡ (D.view disk.old).link }

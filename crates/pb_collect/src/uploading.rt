@@ -45,7 +45,8 @@ fn ask_piece<S: Site>(
     requires count { listener.old.ear.count ≤ 2 ^ 61 }
     ensures asks { IfOk result (λ outcome. Asks (wanted_piece command.now) limits listener.old
         (S.view site.old).link outcome listener.new (S.view site.new).link) }
-    ensures stops { OnErr result (Stops (wanted_piece command.now) limits listener.old (S.view site.old).link listener.new
+    ensures stops { OnErr result (Stops (wanted_piece command.now) limits listener.old
+        (S.view site.old).link listener.new
         (S.view site.new).link) }
     ensures holds { IfOk result (λ outcome. HoldsReply command.now outcome listener.new) }
     ensures adds { Adds (S.view site.old) (S.view site.new) }
@@ -84,7 +85,8 @@ fn bytes_in<'a>(command: &UploadCommand, message: &'a [u8]) -> &'a [u8]
 fn join(listener: &Listener, command: &UploadCommand, file: &mut Vec<u8>) -> usize
     requires holds { HoldsReply command.now (Outcome.Answer FileReply.Data) listener.now }
     requires room { length file.old.items + 1000 ≤ vec_capacity file.old }
-    ensures joined { (bytes : List ℕ) × (file.new.items ≡ file.old.items ++ bytes) × (result ≡ length bytes)
+    ensures joined { (bytes : List ℕ) × (file.new.items ≡ file.old.items ++ bytes)
+        × (result ≡ length bytes)
         × Brings command.now bytes (drop 8 listener.now.ear.content) }
     ensures few { result ≤ 1000 }
     ensures room { vec_capacity file.old ≤ vec_capacity file.new }
@@ -161,7 +163,8 @@ pub(crate) fn upload<S: Site>(
     requires room { file_bytes_max + 1000 ≤ vec_capacity file.old }
     ensures comes { IfOk result (λ cause. UploadComes limits contact.now cause file.new.items
         (channel listener.old (S.view site.old).link) (channel listener.new (S.view site.new).link)) }
-    ensures stops { OnErr result (UploadStops limits contact.now (channel listener.old (S.view site.old).link)
+    ensures stops { OnErr result (UploadStops limits contact.now
+        (channel listener.old (S.view site.old).link)
         (S.view site.new).link) }
     ensures room { vec_capacity file.old ≤ vec_capacity file.new }
     ensures adds { Adds (S.view site.old) (S.view site.new) }

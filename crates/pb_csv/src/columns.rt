@@ -64,7 +64,8 @@ impl Columns {
 
     // Adds the columns of a field.
     fn push_field(&mut self, alloc: Global, field: Field) -> Result<(), AllocError>
-        ensures { OnOk result ((names : _) → HasNames self.old names → HasNames self.new (names ++ names_of (seen_of field.entry))) }
+        ensures { OnOk result ((names : _) → HasNames self.old names
+            → HasNames self.new (names ++ names_of (seen_of field.entry))) }
     {
         let name = escaped(alloc, field.name)?;
         if field.kind == ASCII || field.dimension == 1 {
@@ -87,7 +88,8 @@ impl Columns {
 
     // Adds a column.
     fn push(&mut self, alloc: Global, name: &[u8]) -> Result<(), AllocError>
-        ensures { OnOk result ((names : _) → HasNames self.old names → HasNames self.new (names ++ name.now ∷ [])) }
+        ensures { OnOk result ((names : _) → HasNames self.old names
+            → HasNames self.new (names ++ name.now ∷ [])) }
     {
         push_next(alloc, &mut self.names, name)?;
         self.empties.push(b',')?;

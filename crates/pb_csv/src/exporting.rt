@@ -42,16 +42,19 @@ fn put_row<D: Disk, O: Sink>(
 ) -> Result<bool, ExportFault>
     requires layout { printer.old.table.now.layout ≡ Ok rows.old.layout }
     requires rows { ForSome (D.view disk.old).file (HasRows rows.old) }
-    ensures puts { PutsRow printer.old.table.now.fields (printing O.Sink page.old out.old) (printing O.Sink page.new out.new)
+    ensures puts { PutsRow printer.old.table.now.fields (printing O.Sink page.old out.old)
+        (printing O.Sink page.new out.new)
         rows.old rows.new (D.view disk.old).file result }
-    ensures moves { IfOk result (λ more. more ≡ true → (rows.old.next < rows.new.next) × (rows.new.next ≤ rows.new.to)) }
+    ensures moves { IfOk result (λ more. more ≡ true → (rows.old.next < rows.new.next)
+        × (rows.new.next ≤ rows.new.to)) }
     ensures to { rows.new.to ≡ rows.old.to }
     ensures table { printer.new.table.now ≡ printer.old.table.now }
     ensures layout { rows.new.layout ≡ rows.old.layout }
     ensures refused { IfErr result (ExportRefuses (D.view disk.old).file) }
     ensures no_write { IfErr result (λ fault. fault ≡ ExportFault.WriteFault → ⊥) }
     ensures peeks { Peeks (D.view disk.old) (D.view disk.new) }
-    ensures cause { HasCauseOf ExportFault.DiskFault (D.view disk.old).faults (D.view disk.new).faults result }
+    ensures cause { HasCauseOf ExportFault.DiskFault (D.view disk.old).faults (D.view disk.new).faults
+        result }
 {
     match rows.next(disk) {
         Ok(true) => {}
@@ -77,12 +80,14 @@ fn put_rows<D: Disk, O: Sink>(
 ) -> Result<(), ExportFault>
     requires layout { printer.old.table.now.layout ≡ Ok rows.old.layout }
     requires rows { ForSome (D.view disk.old).file (HasRows rows.old) }
-    ensures puts { PutsFirst printer.old.table.now.fields (printing O.Sink page.old out.old) (printing O.Sink page.new out.new)
+    ensures puts { PutsFirst printer.old.table.now.fields (printing O.Sink page.old out.old)
+        (printing O.Sink page.new out.new)
         rows.old (D.view disk.old).file (is_ok result) }
     ensures refused { IfErr result (ExportRefuses (D.view disk.old).file) }
     ensures no_write { IfErr result (λ fault. fault ≡ ExportFault.WriteFault → ⊥) }
     ensures peeks { Peeks (D.view disk.old) (D.view disk.new) }
-    ensures cause { HasCauseOf ExportFault.DiskFault (D.view disk.old).faults (D.view disk.new).faults result }
+    ensures cause { HasCauseOf ExportFault.DiskFault (D.view disk.old).faults (D.view disk.new).faults
+        result }
 {
     loop {
         match put_row(alloc, printer, rows, disk, page, out) {
@@ -104,12 +109,14 @@ fn put_lines<D: Disk, O: Sink>(
 ) -> Result<(), ExportFault>
     requires layout { printer.old.table.now.layout ≡ Ok rows.old.layout }
     requires rows { ForSome (D.view disk.old).file (HasRows rows.old) }
-    ensures puts { PutsLines printer.old.table.now.fields (printing O.Sink page.old out.old) (printing O.Sink page.new out.new)
+    ensures puts { PutsLines printer.old.table.now.fields (printing O.Sink page.old out.old)
+        (printing O.Sink page.new out.new)
         rows.old (D.view disk.old).file (is_ok result) }
     ensures refused { IfErr result (ExportRefuses (D.view disk.old).file) }
     ensures no_write { IfErr result (λ fault. fault ≡ ExportFault.WriteFault → ⊥) }
     ensures peeks { Peeks (D.view disk.old) (D.view disk.new) }
-    ensures cause { HasCauseOf ExportFault.DiskFault (D.view disk.old).faults (D.view disk.new).faults result }
+    ensures cause { HasCauseOf ExportFault.DiskFault (D.view disk.old).faults (D.view disk.new).faults
+        result }
 {
     match printer.header(alloc) {
         Ok(()) => {}
@@ -140,14 +147,17 @@ pub fn export<D: Disk, O: Sink>(
     requires usable { NeedsOpening archive.now false }
     requires opened { IsOpen archive.now (D.view disk.old) }
     ensures text { (held : _) → slice_get archive.now.tables id.0 ≡ Some held
-        → (rows : List SeenRow) × IsRange (record { id = id.0; from = from.0; to = to.0 }) (D.view disk.old).file rows
+        → (rows : List SeenRow) × IsRange (record { id = id.0; from = from.0; to = to.0 })
+        (D.view disk.old).file rows
         × Exported held.table.fields rows (O.written out.old) (O.written out.new) result }
     ensures refused { IfErr result (ExportRefuses (D.view disk.old).file) }
     ensures disk { ReadsOnly (D.view disk.old) (D.view disk.new) }
     ensures leaves { Leaves Same (D.view disk.old) (D.view disk.new) }
     ensures link { (D.view disk.new).link ≡ (D.view disk.old).link }
-    ensures cause { HasCauseOf ExportFault.DiskFault (D.view disk.old).faults (D.view disk.new).faults result }
-    ensures writes { HasCauseOf ExportFault.WriteFault (O.write_faults out.old) (O.write_faults out.new) result }
+    ensures cause { HasCauseOf ExportFault.DiskFault (D.view disk.old).faults (D.view disk.new).faults
+        result }
+    ensures writes { HasCauseOf ExportFault.WriteFault (O.write_faults out.old)
+        (O.write_faults out.new) result }
 {
     let Some(table) = archive.table(id) else {
         unreachable!();

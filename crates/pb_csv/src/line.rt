@@ -96,7 +96,8 @@ fn push_values(
 
 // Adds a time, none of whose bytes calls for quotes.
 fn push_time(row: &mut Vec<u8>, time: Nsec) -> Result<(), AllocError>
-    ensures added { OnOk result (row.new.items ≡ row.old.items ++ comma ∷ field_text default_writer (time_text time)) }
+    ensures added { OnOk result (row.new.items
+        ≡ row.old.items ++ comma ∷ field_text default_writer (time_text time)) }
     ensures spelled { (rest : _) → time_of (time_bytes time ++ rest) ≡ time }
 {
     is_spelled(time.sec, time.nano);
@@ -116,7 +117,8 @@ fn push_number(row: &mut Vec<u8>, number: u32) -> Result<(), AllocError>
 
 // A time is read back from its bytes, since both of its numbers are signed numbers of four bytes.
 fn is_spelled(sec: i32, nano: i32)
-    ensures { let time : nsec.Nsec = record { sec = sec; nano = nano } in (rest : _) → time_of (time_bytes time ++ rest) ≡ time }
+    ensures { let time : nsec.Nsec = record { sec = sec; nano = nano } in (rest : _)
+        → time_of (time_bytes time ++ rest) ≡ time }
 {}
 
 /// The row of names in place of what `row` holds.

@@ -34,7 +34,8 @@ impl<'t> Printer<'t> {
 
     /// Makes the line of names.
     pub(crate) fn header(&mut self, alloc: Global) -> Result<(), AllocError>
-        ensures line { OnOk result (self.new.line.items ≡ csv_row (header_fields self.old.table.now.fields)) }
+        ensures line { OnOk result (self.new.line.items
+            ≡ csv_row (header_fields self.old.table.now.fields)) }
         ensures table { self.new.table.now ≡ self.old.table.now }
     {
         header(alloc, &mut self.line, &self.columns)
@@ -43,7 +44,8 @@ impl<'t> Printer<'t> {
     /// Makes the line of a row.
     pub(crate) fn row(&mut self, alloc: Global, row: Row) -> Result<(), AllocError>
         requires { CanPrint self.old.table.now row }
-        ensures line { OnOk result (self.new.line.items ≡ row_line self.old.table.now.fields (seen_row row.entry)) }
+        ensures line { OnOk result (self.new.line.items
+            ≡ row_line self.old.table.now.fields (seen_row row.entry)) }
         ensures table { self.new.table.now ≡ self.old.table.now }
     {
         match row {

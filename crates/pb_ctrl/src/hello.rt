@@ -85,7 +85,8 @@ pub(crate) fn write_greeting(
     ensures full { OnErr result
         (DoesNotFit (kind ∷ tran ∷ greeting.router ∷ greeting.metric ∷ to_be_bytes w16 greeting.verify ++ [])
         out.old out.new) }
-    ensures in_range { (tran < 2 ^ 8) × (greeting.router < 2 ^ 8) × (greeting.metric < 2 ^ 8) × (greeting.verify < 2 ^ 16) }
+    ensures in_range { (tran < 2 ^ 8) × (greeting.router < 2 ^ 8) × (greeting.metric < 2 ^ 8)
+        × (greeting.verify < 2 ^ 16) }
 {
     let pieces = [
         Piece::Byte(kind),

@@ -10,7 +10,8 @@ pub fn written_message_is_read()
         → MessageReads m (bytes ++ rest) }
     ensures parts { (m : Message) (bytes : List ℕ) → MessageReads m bytes
         → (own rest : List ℕ) × (bytes ≡ own ++ rest) × MessageBytes m own × MayStandBehind m rest }
-    ensures one_message { (m other : Message) (bytes : List ℕ) → MessageReads m bytes → MessageReads other bytes → m ≡ other }
+    ensures one_message { (m other : Message) (bytes : List ℕ) → MessageReads m bytes
+        → MessageReads other bytes → m ≡ other }
 {}
 
 /// The bytes of one message of each type, each of whose keys is another.

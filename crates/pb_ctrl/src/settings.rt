@@ -23,8 +23,10 @@ pub(crate) fn write_get_settings(
     first: u16,
     out: &mut [u8],
 ) -> Result<usize, Full>
-    ensures written { IfOk result (IsWritten (message_bytes (GetSettings tran code first)) out.old out.new) }
-    ensures full { OnErr result (DoesNotFit (message_bytes (GetSettings tran code first)) out.old out.new) }
+    ensures written { IfOk result (IsWritten (message_bytes (GetSettings tran code first)) out.old
+        out.new) }
+    ensures full { OnErr result (DoesNotFit (message_bytes (GetSettings tran code first)) out.old
+        out.new) }
     ensures in_range { InRange (GetSettings tran code first) }
 {
     let pieces = [
@@ -61,8 +63,10 @@ pub(crate) fn write_get_settings_reply(
     settings: &[u8],
     out: &mut [u8],
 ) -> Result<usize, Full>
-    ensures written { IfOk result (IsWritten (message_bytes (GetSettingsReply tran outcome more settings.now)) out.old out.new) }
-    ensures full { OnErr result (DoesNotFit (message_bytes (GetSettingsReply tran outcome more settings.now)) out.old out.new) }
+    ensures written { IfOk result (IsWritten (message_bytes
+        (GetSettingsReply tran outcome more settings.now)) out.old out.new) }
+    ensures full { OnErr result (DoesNotFit (message_bytes
+        (GetSettingsReply tran outcome more settings.now)) out.old out.new) }
     ensures in_range { InRange (GetSettingsReply tran outcome more settings.now) }
 {
     let pieces = [
@@ -94,8 +98,10 @@ pub(crate) fn write_set_settings(
     settings: &[u8],
     out: &mut [u8],
 ) -> Result<usize, Full>
-    ensures written { IfOk result (IsWritten (message_bytes (SetSettings tran code settings.now)) out.old out.new) }
-    ensures full { OnErr result (DoesNotFit (message_bytes (SetSettings tran code settings.now)) out.old out.new) }
+    ensures written { IfOk result (IsWritten (message_bytes (SetSettings tran code settings.now))
+        out.old out.new) }
+    ensures full { OnErr result (DoesNotFit (message_bytes (SetSettings tran code settings.now))
+        out.old out.new) }
     ensures in_range { InRange (SetSettings tran code settings.now) }
 {
     let pieces = [
@@ -129,8 +135,10 @@ pub(crate) fn write_set_settings_reply(
     number: u16,
     out: &mut [u8],
 ) -> Result<usize, Full>
-    ensures written { IfOk result (IsWritten (message_bytes (SetSettingsReply tran outcome number)) out.old out.new) }
-    ensures full { OnErr result (DoesNotFit (message_bytes (SetSettingsReply tran outcome number)) out.old out.new) }
+    ensures written { IfOk result (IsWritten (message_bytes (SetSettingsReply tran outcome number))
+        out.old out.new) }
+    ensures full { OnErr result (DoesNotFit (message_bytes (SetSettingsReply tran outcome number))
+        out.old out.new) }
     ensures in_range { InRange (SetSettingsReply tran outcome number) }
 {
     let pieces = [

@@ -11,7 +11,8 @@ ghost use Rattle.pb_frame.specs.Faults.{HasFault, IsHeardBefore, IsPiece};
 pub fn law_limits()
     ensures body { BODY_MAX ≡ body_max }
     ensures frame { FRAME_MAX ≡ frame_max }
-    ensures enough { (content : List ℕ) → IsContentSize (length content) → length (frame content) ≤ frame_max }
+    ensures enough { (content : List ℕ) → IsContentSize (length content)
+        → length (frame content) ≤ frame_max }
 {}
 
 /// A content with its nullifier has signature 0.
@@ -33,7 +34,8 @@ pub fn law_quoted()
 
 /// A stream is what stands before its first flag byte and then each text behind a flag byte, and none of them has one.
 pub fn law_cut()
-    ensures whole { (stream : List ℕ) → (cut stream).head ++ flat_map (λ text. flag ∷ text) (cut stream).texts ≡ stream }
+    ensures whole { (stream : List ℕ) → (cut stream).head ++ flat_map (λ text. flag ∷ text)
+        (cut stream).texts ≡ stream }
     ensures head { (stream : List ℕ) → HasNoFlag (cut stream).head }
     ensures texts { (stream : List ℕ) → HasNoFlag (flat_map (λ text. text) (cut stream).texts) }
 {}
@@ -56,13 +58,15 @@ pub fn law_good()
 pub fn law_fault()
     ensures has { (piece : Piece) (at : ℕ) (why : Why) → IsPiece piece
         → outcome piece ≡ Some (Faulty at why) → HasFault piece at why }
-    ensures first { (piece : Piece) (at : ℕ) (why : Why) → HasFault piece at why → IsHeardBefore piece at why }
+    ensures first { (piece : Piece) (at : ℕ) (why : Why) → HasFault piece at why
+        → IsHeardBefore piece at why }
 {}
 
 /// A written frame is heard as its content, whatever stands before it, and leaves no open piece.
 pub fn law_frame_heard()
     ensures heard { (front content : List ℕ) → IsContentSize (length content)
-        → verdicts (front ++ frame content) ≡ verdicts (front ++ flag ∷ []) ++ whole_at (length front + 1) content }
+        → verdicts (front ++ frame content) ≡ verdicts (front ++ flag ∷ []) ++ whole_at
+        (length front + 1) content }
     ensures next { (front content : List ℕ) → IsContentSize (length content)
         → verdicts ((front ++ flag ∷ []) ++ frame content)
         ≡ verdicts (front ++ flag ∷ []) ++ whole_at (length front + 2) content }
@@ -71,5 +75,6 @@ pub fn law_frame_heard()
 
 /// More bytes add verdicts, and change none.
 pub fn law_verdicts_grow()
-    ensures { (front back : List ℕ) → (vs : List Verdict) × (verdicts (front ++ back) ≡ verdicts front ++ vs) }
+    ensures { (front back : List ℕ) → (vs : List Verdict)
+        × (verdicts (front ++ back) ≡ verdicts front ++ vs) }
 {}

@@ -11,7 +11,8 @@ use crate::signing::Signer;
 pub fn copy_plain(bytes: &[u8], room: &mut [u8], signer: &mut Signer) -> usize
     ensures front { result ≤ length bytes.now }
     ensures room { result ≤ length room.old }
-    ensures end { result < length bytes.now → result < length room.old → ¬ IsPlain (slice_index bytes.now result) }
+    ensures end { result < length bytes.now → result < length room.old
+        → ¬ IsPlain (slice_index bytes.now result) }
     ensures plain { All IsPlain (take result bytes.now) }
     ensures copied { take result room.new ≡ take result bytes.now }
     ensures signed { 256 * signer.new.high + signer.new.low

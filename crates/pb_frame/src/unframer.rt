@@ -82,7 +82,8 @@ impl Unframer {
         ensures piece { self.new.piece ≡ self.old.piece }
         ensures count { self.new.count ≡ self.old.count + result }
         ensures kept { length self.new.body ≤ body_max }
-        ensures end { result < length bytes.now → EndsRun self.old.state self.old.body result (slice_index bytes.now result) }
+        ensures end { result < length bytes.now
+            → EndsRun self.old.state self.old.body result (slice_index bytes.now result) }
     {
         match self.state {
             State::Plain => self.take_body(bytes),
@@ -240,7 +241,8 @@ impl Unframer {
         ensures front { result ≤ length bytes.now }
         ensures plain { All IsPlain (take result bytes.now) }
         ensures room { length self.old.body + result ≤ 1010 }
-        ensures end { result < length bytes.now → IsPlain (slice_index bytes.now result) → length self.old.body + result ≡ 1010 }
+        ensures end { result < length bytes.now → IsPlain (slice_index bytes.now result)
+            → length self.old.body + result ≡ 1010 }
         ensures after { self.new ≡ hearing self.old.state (self.old.count + result) self.old.piece
             (self.old.body ++ take result bytes.now) }
     {
@@ -256,7 +258,8 @@ impl Unframer {
         ensures front { result ≤ length bytes.now }
         ensures no_flag { HasNoFlag (take result bytes.now) }
         ensures end { result < length bytes.now → slice_index bytes.now result ≡ flag }
-        ensures after { self.new ≡ hearing self.old.state (self.old.count + result) self.old.piece self.old.body }
+        ensures after { self.new ≡ hearing self.old.state (self.old.count + result) self.old.piece
+            self.old.body }
     {
         let n = bytes
             .iter()

@@ -33,7 +33,8 @@ pub trait Disk {
     /// Fills `to` with the bytes from `at` on, which lie in the file. Where it fails, `to` may hold any bytes.
     fn read_at(&mut self, at: u64, to: &mut [u8]) -> Result<(), Failed>
         requires { ForSome (view self.old).file (λ f. at + length to.old ≤ length f) }
-        ensures bytes { OnOk result (IfSome (view self.old).file (λ f. to.new ≡ take (length to.old) (drop at f))) }
+        ensures bytes { OnOk result (IfSome (view self.old).file
+            (λ f. to.new ≡ take (length to.old) (drop at f))) }
         ensures disk { ReadsOnly (view self.old) (view self.new) }
         ensures link { (view self.new).link ≡ (view self.old).link }
         ensures time { Elapses (view self.old) (view self.new) }
@@ -44,7 +45,8 @@ pub trait Disk {
     /// between the old and the new one.
     fn write_at(&mut self, at: u64, from: &[u8]) -> Result<(), Failed>
         requires { ForSome (view self.old).file (λ f. at ≤ length f) }
-        ensures written { OnOk result ((view self.new).file ≡ option_map (λ f. overlaid f at from.now) (view self.old).file) }
+        ensures written { OnOk result ((view self.new).file
+            ≡ option_map (λ f. overlaid f at from.now) (view self.old).file) }
         ensures bound { OnOk result (at + length from.now ≤ max_file_len) }
         ensures file { Changes (Torn at (length from.now)) (view self.old).file (view self.new).file }
         ensures images { AriseBy (Torn at (length from.now)) (view self.old).image (view self.new).image }
@@ -56,7 +58,8 @@ pub trait Disk {
     /// between, and any bytes past `len`.
     fn cut(&mut self, len: u64) -> Result<(), Failed>
         requires { ForSome (view self.old).file (λ f. len ≤ length f) }
-        ensures shortened { OnOk result ((view self.new).file ≡ option_map (λ f. take len f) (view self.old).file) }
+        ensures shortened { OnOk result ((view self.new).file
+            ≡ option_map (λ f. take len f) (view self.old).file) }
         ensures file { Changes (Shortened len) (view self.old).file (view self.new).file }
         ensures images { AriseBy (Shortened len) (view self.old).image (view self.new).image }
         ensures link { (view self.new).link ≡ (view self.old).link }

@@ -46,7 +46,8 @@ impl MemDisk {
     /// A disk whose file has these bytes, at most 2^62 of them, all settled. The calls whose numbers, from 0, stand in
     /// `fails` fail; they count too.
     pub fn new(alloc: Global, bytes: &[u8], fails: &[u64]) -> Result<MemDisk, Memory>
-        ensures { IfOk result (λ d. d ≡ record { first = bytes.now; changes = []; calls = no_calls fails.now }) }
+        ensures { IfOk result (λ d. d ≡ record
+            { first = bytes.now; changes = []; calls = no_calls fails.now }) }
     {
         if bytes.len() as u64 > MAX_FILE_LEN {
             return Err(Memory);
@@ -77,9 +78,11 @@ impl MemDisk {
     /// Events of the stations and of the link happened, all at one moment: the world grows by them at its end, and the
     /// file and what a crash may leave of it stay. Takes memory; where it finds none, nothing happened.
     pub fn happened(&mut self, events: Vec<Event>) -> Result<(), Memory>
-        ensures added { OnOk result (self.new ≡ record self.old { changes = Linked (world_in events.items) ∷ self.old.changes }) }
+        ensures added { OnOk result (self.new
+            ≡ record self.old { changes = Linked (world_in events.items) ∷ self.old.changes }) }
         ensures same { OnErr result (self.new ≡ self.old) }
-        ensures world { OnOk result (world_of self.new.changes ≡ world_of self.old.changes ++ world_in events.items) }
+        ensures world { OnOk result (world_of self.new.changes
+            ≡ world_of self.old.changes ++ world_in events.items) }
         ensures disk { (a b m n : ℕ) → ReadsOnly (disk_view self.old a b) (disk_view self.new m n) }
         ensures time { (a b m n : ℕ) → Elapses (disk_view self.old a b) (disk_view self.new m n) }
     {
@@ -102,7 +105,8 @@ impl MemDisk {
 
     /// A site over it has sent a frame.
     pub(crate) fn sent(&mut self, frame: &[u8]) -> Result<(), AllocError>
-        ensures added { OnOk result (self.new ≡ record self.old { changes = Linked (Sent frame.now ∷ []) ∷ self.old.changes }) }
+        ensures added { OnOk result (self.new
+            ≡ record self.old { changes = Linked (Sent frame.now ∷ []) ∷ self.old.changes }) }
         ensures same { OnErr result (self.new ≡ self.old) }
     {
         self.log.sent(self.alloc, frame)
@@ -110,7 +114,8 @@ impl MemDisk {
 
     /// A site over it has given bytes, or where there are none a quiet tick.
     pub(crate) fn received(&mut self, bytes: &[u8]) -> Result<(), AllocError>
-        ensures added { OnOk result (self.new ≡ record self.old { changes = Linked (arrival bytes.now) ∷ self.old.changes }) }
+        ensures added { OnOk result (self.new
+            ≡ record self.old { changes = Linked (arrival bytes.now) ∷ self.old.changes }) }
         ensures same { OnErr result (self.new ≡ self.old) }
     {
         self.log.received(self.alloc, bytes)
@@ -171,10 +176,13 @@ impl Disk for MemDisk {
     /// Takes memory; a call that finds none is a counted fault and changes nothing.
     fn write_at(&mut self, at: u64, from: &[u8]) -> Result<(), Failed>
         requires { at ≤ length (file_now self.old) }
-        ensures written { OnOk result ((disk_view self.new 0 0).file ≡ Some (overlaid (file_now self.old) at from.now)) }
+        ensures written { OnOk result ((disk_view self.new 0 0).file
+            ≡ Some (overlaid (file_now self.old) at from.now)) }
         ensures bound { OnOk result (at + length from.now ≤ max_file_len) }
-        ensures file { Changes (Torn at (length from.now)) (disk_view self.old 0 0).file (disk_view self.new 0 0).file }
-        ensures images { AriseBy (Torn at (length from.now)) (disk_view self.old 0 0).image (disk_view self.new 0 0).image }
+        ensures file { Changes (Torn at (length from.now)) (disk_view self.old 0 0).file
+            (disk_view self.new 0 0).file }
+        ensures images { AriseBy (Torn at (length from.now)) (disk_view self.old 0 0).image
+            (disk_view self.new 0 0).image }
         ensures link { (disk_view self.new 0 0).link ≡ (disk_view self.old 0 0).link }
         ensures time { Elapses (disk_view self.old 0 0) (disk_view self.new 0 0) }
         ensures cause { HasCause self.old.calls.faults self.new.calls.faults result }
@@ -198,9 +206,12 @@ impl Disk for MemDisk {
     /// Takes memory; a call that finds none is a counted fault and changes nothing.
     fn cut(&mut self, len: u64) -> Result<(), Failed>
         requires { len ≤ length (file_now self.old) }
-        ensures shortened { OnOk result ((disk_view self.new 0 0).file ≡ Some (take len (file_now self.old))) }
-        ensures file { Changes (Shortened len) (disk_view self.old 0 0).file (disk_view self.new 0 0).file }
-        ensures images { AriseBy (Shortened len) (disk_view self.old 0 0).image (disk_view self.new 0 0).image }
+        ensures shortened { OnOk result ((disk_view self.new 0 0).file
+            ≡ Some (take len (file_now self.old))) }
+        ensures file { Changes (Shortened len) (disk_view self.old 0 0).file
+            (disk_view self.new 0 0).file }
+        ensures images { AriseBy (Shortened len) (disk_view self.old 0 0).image
+            (disk_view self.new 0 0).image }
         ensures link { (disk_view self.new 0 0).link ≡ (disk_view self.old 0 0).link }
         ensures time { Elapses (disk_view self.old 0 0) (disk_view self.new 0 0) }
         ensures cause { HasCause self.old.calls.faults self.new.calls.faults result }
@@ -218,7 +229,8 @@ impl Disk for MemDisk {
     /// Takes memory; a call that finds none is a counted fault and settles nothing.
     fn sync(&mut self) -> Result<(), Failed>
         ensures settled { OnOk result (IsSettled (disk_view self.new 0 0)) }
-        ensures unsettled { OnErr result (Within (disk_view self.new 0 0).image (disk_view self.old 0 0).image) }
+        ensures unsettled { OnErr result (Within (disk_view self.new 0 0).image
+            (disk_view self.old 0 0).image) }
         ensures file { (disk_view self.new 0 0).file ≡ (disk_view self.old 0 0).file }
         ensures images { Within (disk_view self.old 0 0).image (disk_view self.new 0 0).image }
         ensures link { (disk_view self.new 0 0).link ≡ (disk_view self.old 0 0).link }

@@ -44,7 +44,8 @@ impl MemSite {
     /// A site with this disk. The calls of `send` and `recv` together whose numbers, from
     /// 0, stand in `fails` fail; they count too. The disk counts its own.
     pub fn new(alloc: Global, disk: MemDisk, fails: &[u64]) -> Result<MemSite, Memory>
-        ensures { IfOk result (λ s. s ≡ record { disk = disk; calls = no_calls fails.now; waiting = []; quiets = 0 }) }
+        ensures { IfOk result (λ s. s ≡ record
+            { disk = disk; calls = no_calls fails.now; waiting = []; quiets = 0 }) }
     {
         Ok(MemSite {
             alloc,
@@ -58,7 +59,8 @@ impl MemSite {
     /// Adds a chunk at the end of what the site is to hear. Each `recv` gives of the next chunk alone; an empty chunk
     /// is a quiet tick, and so is the end of the list.
     pub fn hears(&mut self, chunk: &[u8]) -> Result<(), Memory>
-        ensures added { OnOk result (self.new ≡ record self.old { waiting = self.old.waiting ++ chunk.now ∷ [] }) }
+        ensures added { OnOk result (self.new
+            ≡ record self.old { waiting = self.old.waiting ++ chunk.now ∷ [] }) }
         ensures same { OnErr result (self.new ≡ self.old) }
     {
         self.inbox.push(self.alloc, chunk).map_err(|_| Memory)
@@ -104,15 +106,19 @@ impl Disk for MemSite {
     /// Takes memory; a call that finds none is a counted fault and changes nothing.
     fn write_at(&mut self, at: u64, from: &[u8]) -> Result<(), Failed>
         requires { at ≤ length (file_now self.old.disk) }
-        ensures written { OnOk result ((site_view self.new).file ≡ Some (overlaid (file_now self.old.disk) at from.now)) }
+        ensures written { OnOk result ((site_view self.new).file
+            ≡ Some (overlaid (file_now self.old.disk) at from.now)) }
         ensures bound { OnOk result (at + length from.now ≤ max_file_len) }
-        ensures file { Changes (Torn at (length from.now)) (site_view self.old).file (site_view self.new).file }
-        ensures images { AriseBy (Torn at (length from.now)) (site_view self.old).image (site_view self.new).image }
+        ensures file { Changes (Torn at (length from.now)) (site_view self.old).file
+            (site_view self.new).file }
+        ensures images { AriseBy (Torn at (length from.now)) (site_view self.old).image
+            (site_view self.new).image }
         ensures link { (site_view self.new).link ≡ (site_view self.old).link }
         ensures time { Elapses (site_view self.old) (site_view self.new) }
         ensures cause { HasCause self.old.disk.calls.faults self.new.disk.calls.faults result }
         ensures listed { IsTrue (is_listed self.old.disk.calls) → IsErr result }
-        ensures state { self.new ≡ record self.old { disk = after_change self.old.disk (Wrote at from.now) (is_err result) } }
+        ensures state { self.new ≡ record self.old
+            { disk = after_change self.old.disk (Wrote at from.now) (is_err result) } }
     {
         self.disk.write_at(at, from)
     }
@@ -120,14 +126,16 @@ impl Disk for MemSite {
     /// Takes memory; a call that finds none is a counted fault and changes nothing.
     fn cut(&mut self, len: u64) -> Result<(), Failed>
         requires { len ≤ length (file_now self.old.disk) }
-        ensures shortened { OnOk result ((site_view self.new).file ≡ Some (take len (file_now self.old.disk))) }
+        ensures shortened { OnOk result ((site_view self.new).file
+            ≡ Some (take len (file_now self.old.disk))) }
         ensures file { Changes (Shortened len) (site_view self.old).file (site_view self.new).file }
         ensures images { AriseBy (Shortened len) (site_view self.old).image (site_view self.new).image }
         ensures link { (site_view self.new).link ≡ (site_view self.old).link }
         ensures time { Elapses (site_view self.old) (site_view self.new) }
         ensures cause { HasCause self.old.disk.calls.faults self.new.disk.calls.faults result }
         ensures listed { IsTrue (is_listed self.old.disk.calls) → IsErr result }
-        ensures state { self.new ≡ record self.old { disk = after_change self.old.disk (Cut len) (is_err result) } }
+        ensures state { self.new ≡ record self.old
+            { disk = after_change self.old.disk (Cut len) (is_err result) } }
     {
         self.disk.cut(len)
     }
@@ -142,7 +150,8 @@ impl Disk for MemSite {
         ensures time { Elapses (site_view self.old) (site_view self.new) }
         ensures cause { HasCause self.old.disk.calls.faults self.new.disk.calls.faults result }
         ensures listed { IsTrue (is_listed self.old.disk.calls) → IsErr result }
-        ensures state { self.new ≡ record self.old { disk = after_change self.old.disk Synced (is_err result) } }
+        ensures state { self.new ≡ record self.old
+            { disk = after_change self.old.disk Synced (is_err result) } }
     {
         self.disk.sync()
     }
@@ -153,7 +162,8 @@ impl Disk for MemSite {
 impl Site for MemSite {
     /// Takes memory; a call that finds none is a counted fault and sends nothing.
     fn send(&mut self, frame: &[u8]) -> Result<(), Failed>
-        ensures world { Sends (site_view self.old).link.world (site_view self.new).link.world frame.now result }
+        ensures world { Sends (site_view self.old).link.world (site_view self.new).link.world
+            frame.now result }
         ensures quiets { self.new.quiets ≡ self.old.quiets }
         ensures disk { ReadsOnly (site_view self.old) (site_view self.new) }
         ensures disk_faults { self.new.disk.calls.faults ≡ self.old.disk.calls.faults }
@@ -174,7 +184,8 @@ impl Site for MemSite {
     /// Takes memory; a call that finds none is a counted fault and takes nothing.
     fn recv(&mut self, to: &mut [u8]) -> Result<usize, Failed>
         ensures bound { IfOk result (λ n. n ≤ length to.old) }
-        ensures world { Receives (site_view self.old).link.world (site_view self.new).link.world to.new result }
+        ensures world { Receives (site_view self.old).link.world (site_view self.new).link.world
+            to.new result }
         ensures quiets { Ticks self.old.quiets self.new.quiets result }
         ensures disk { ReadsOnly (site_view self.old) (site_view self.new) }
         ensures disk_faults { self.new.disk.calls.faults ≡ self.old.disk.calls.faults }

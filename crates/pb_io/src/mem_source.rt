@@ -41,7 +41,8 @@ impl MemSource {
         fails: &[u64],
     ) -> Result<MemSource, Memory>
         requires { 1 ≤ chunk }
-        ensures { IfOk result (λ s. s ≡ record { left = bytes.now; chunk = chunk; ends = 0; calls = no_calls fails.now }) }
+        ensures { IfOk result (λ s. s ≡ record
+            { left = bytes.now; chunk = chunk; ends = 0; calls = no_calls fails.now }) }
     {
         Ok(MemSource {
             bytes: Vec::from_slice(alloc, bytes).map_err(|_| Memory)?,
@@ -66,7 +67,8 @@ impl Source for MemSource {
         ensures ends { CountsEnds self.old.ends self.new.ends to.old result }
         ensures cause { HasCause self.old.calls.faults self.new.calls.faults result }
         ensures listed { is_err result ≡ is_listed self.old.calls }
-        ensures taken { IfOk result (λ n. n ≡ min self.old.chunk (min (length to.old) (length self.old.left))) }
+        ensures taken { IfOk result (λ n. n ≡ min self.old.chunk
+            (min (length to.old) (length self.old.left))) }
         ensures chunk { self.new.chunk ≡ self.old.chunk }
         ensures calls { self.new.calls ≡ after_call self.old.calls (is_err result) }
     {

@@ -74,7 +74,8 @@ impl Page {
 
     /// Adds the parts one after another.
     pub fn put<O: Sink>(&mut self, parts: &[Part], out: &mut O)
-        ensures { Adds (parts_text parts.now) (printing O.Sink self.old out.old) (printing O.Sink self.new out.new) }
+        ensures { Adds (parts_text parts.now) (printing O.Sink self.old out.old)
+            (printing O.Sink self.new out.new) }
     {
         for part in parts {
             self.push_part(*part, out);
@@ -94,7 +95,8 @@ impl Page {
     }
 
     fn push_part<O: Sink>(&mut self, part: Part, out: &mut O)
-        ensures { Adds (part_text part.entry) (printing O.Sink self.old out.old) (printing O.Sink self.new out.new) }
+        ensures { Adds (part_text part.entry) (printing O.Sink self.old out.old)
+            (printing O.Sink self.new out.new) }
     {
         match part {
             Part::Text(text) => self.push(text, out),

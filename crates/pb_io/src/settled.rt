@@ -11,7 +11,8 @@ use crate::{Disk, Failed};
 /// a crash leaves them torn. The sync is tried once.
 pub fn write_settled<D: Disk>(disk: &mut D, at: u64, bytes: &[u8]) -> Result<(), Failed>
     requires { ForSome (D.view disk.old).file (λ f. at ≤ length f) }
-    ensures written { OnOk result (IsMapped (λ f. overlaid f at bytes.now) (D.view disk.old) (D.view disk.new)) }
+    ensures written { OnOk result (IsMapped (λ f. overlaid f at bytes.now) (D.view disk.old)
+        (D.view disk.new)) }
     ensures settled { OnOk result (IsSettled (D.view disk.new)) }
     ensures bound { OnOk result (at + length bytes.now ≤ max_file_len) }
     ensures file { Changes (Torn at (length bytes.now)) (D.view disk.old).file (D.view disk.new).file }
@@ -48,13 +49,15 @@ pub fn write_in_order<D: Disk>(
     second: &[u8],
 ) -> Result<(), Failed>
     requires first { ForSome (D.view disk.old).file (λ f. first_at ≤ length f) }
-    requires second { ForSome (D.view disk.old).file (λ f. second_at ≤ max (length f) (first_at + length first.now)) }
+    requires second { ForSome (D.view disk.old).file
+        (λ f. second_at ≤ max (length f) (first_at + length first.now)) }
     ensures written { OnOk result
         (IsMapped (overlaid_twice first_at first.now second_at second.now) (D.view disk.old) (D.view disk.new)) }
     ensures settled { OnOk result (IsSettled (D.view disk.new)) }
     ensures file { Changes (TornInOrder first_at first.now second_at (length second.now))
         (D.view disk.old).file (D.view disk.new).file }
-    ensures run { RunsInOrder first_at first.now second_at (length second.now) (D.view disk.old) (D.view disk.new) }
+    ensures run { RunsInOrder first_at first.now second_at (length second.now) (D.view disk.old)
+        (D.view disk.new) }
     ensures cause { HasCause (D.view disk.old).faults (D.view disk.new).faults result }
 {
     write_settled(disk, first_at, first)?;

@@ -16,22 +16,26 @@ pub trait Site: Disk {
     /// Sends a frame that isn't empty. Where it fails, the frame may have been sent or not.
     fn send(&mut self, frame: &[u8]) -> Result<(), Failed>
         requires { 0 < length frame.now }
-        ensures world { Sends (Self.view self.old).link.world (Self.view self.new).link.world frame.now result }
+        ensures world { Sends (Self.view self.old).link.world (Self.view self.new).link.world
+            frame.now result }
         ensures quiets { (Self.view self.new).link.quiets ≡ (Self.view self.old).link.quiets }
         ensures disk { ReadsOnly (Self.view self.old) (Self.view self.new) }
         ensures disk_faults { (Self.view self.new).faults ≡ (Self.view self.old).faults }
         ensures time { Elapses (Self.view self.old) (Self.view self.new) }
-        ensures cause { HasCause (Self.view self.old).link.faults (Self.view self.new).link.faults result };
+        ensures cause { HasCause (Self.view self.old).link.faults (Self.view self.new).link.faults
+            result };
 
     /// Gives the bytes that came, at most as many as `to`, which isn't empty, has room for; 0 for a tick in which
     /// nothing came. The end of a stream is a call that fails.
     fn recv(&mut self, to: &mut [u8]) -> Result<usize, Failed>
         requires { 0 < length to.old }
         ensures bound { IfOk result (λ n. n ≤ length to.old) }
-        ensures world { Receives (Self.view self.old).link.world (Self.view self.new).link.world to.new result }
+        ensures world { Receives (Self.view self.old).link.world (Self.view self.new).link.world
+            to.new result }
         ensures quiets { Ticks (Self.view self.old).link.quiets (Self.view self.new).link.quiets result }
         ensures disk { ReadsOnly (Self.view self.old) (Self.view self.new) }
         ensures disk_faults { (Self.view self.new).faults ≡ (Self.view self.old).faults }
         ensures time { Elapses (Self.view self.old) (Self.view self.new) }
-        ensures cause { HasCause (Self.view self.old).link.faults (Self.view self.new).link.faults result };
+        ensures cause { HasCause (Self.view self.old).link.faults (Self.view self.new).link.faults
+            result };
 }

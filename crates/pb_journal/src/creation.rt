@@ -35,7 +35,8 @@ fn is_created<D: Disk>(disk: &mut D) -> Result<bool, Failed>
 // Settles a file that holds no journal, and leaves one byte of it at most.
 fn shorten<D: Disk>(disk: &mut D) -> Result<(), Failed>
     requires vacant { ForSome (D.view disk.old).file IsVacant }
-    ensures short { OnOk result (Changes (λ f g. length g ≤ 1) (D.view disk.old).file (D.view disk.new).file) }
+    ensures short { OnOk result (Changes (λ f g. length g ≤ 1) (D.view disk.old).file
+        (D.view disk.new).file) }
     ensures settled { OnOk result (IsSettled (D.view disk.new)) }
     ensures file { Changes StaysVacant (D.view disk.old).file (D.view disk.new).file }
     ensures run { Runs StaysVacant (D.view disk.old) (D.view disk.new) }

@@ -29,7 +29,8 @@ fn next_body<D: Disk>(
 ) -> Result<Option<usize>, JournalFault>
     requires low { gate < max_file_len }
     requires room { window.old.held ≡ window_len }
-    requires ahead { ForSome (D.view disk.old).file (λ f. (bodies : List (List ℕ)) × Ahead f place gate bodies) }
+    requires ahead { ForSome (D.view disk.old).file
+        (λ f. (bodies : List (List ℕ)) × Ahead f place gate bodies) }
     requires shows { ForSome (D.view disk.old).file (Shows window.old) }
     ensures next { IfOk result (λ next. ForSome (D.view disk.old).file (FindsNext place gate next)) }
     ensures covers { IfOk result (λ next. IfSome next (IsAtHand window.new place gate)) }

@@ -66,9 +66,11 @@ impl Journal {
         requires few { length head.now + length rest.now ≤ max_body_len }
         requires opened { self.old.must_reopen ≡ false → IsOpened self.old.gate (D.view disk.old) }
 
-        ensures added { OnOk result (Changes (Gains (head.now ++ rest.now)) (D.view disk.old).file (D.view disk.new).file) }
+        ensures added { OnOk result (Changes (Gains (head.now ++ rest.now)) (D.view disk.old).file
+            (D.view disk.new).file) }
         ensures opened { OnOk result (IsOpened self.new.gate (D.view disk.new)) }
-        ensures file { Changes (KeepsOrGains (head.now ++ rest.now)) (D.view disk.old).file (D.view disk.new).file }
+        ensures file { Changes (KeepsOrGains (head.now ++ rest.now)) (D.view disk.old).file
+            (D.view disk.new).file }
         ensures leaves { Leaves (KeepsOrGains (head.now ++ rest.now)) (D.view disk.old) (D.view disk.new) }
         ensures refused { IfErr result (AppendRefuses self.old.must_reopen) }
         ensures must_reopen { self.new.must_reopen ≡ (self.old.must_reopen || is_err result) }

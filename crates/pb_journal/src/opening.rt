@@ -131,7 +131,8 @@ fn find_end<D: Disk>(window: &mut Window, disk: &mut D) -> Result<End, JournalFa
     requires room { empty_len ≤ window.old.held }
     requires shows { ForSome (D.view disk.old).file (Shows window.old) }
     ensures ends { IfOk result (λ end. ForSome (D.view disk.old).file (EndsAt end.gate)) }
-    ensures rests { IfOk result (λ end. end.at_rest ≡ true → ForSome (D.view disk.old).file (Rests end.gate)) }
+    ensures rests { IfOk result (λ end. end.at_rest ≡ true
+        → ForSome (D.view disk.old).file (Rests end.gate)) }
     ensures bound { IfOk result (λ end. end.gate < max_file_len) }
     ensures refused { IfErr result (OpenRefuses (D.view disk.old).file) }
     ensures peeks { Peeks (D.view disk.old) (D.view disk.new) }

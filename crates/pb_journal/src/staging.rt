@@ -38,7 +38,8 @@ fn put_both<D: Disk>(disk: &mut D, at: u64, first: &[u8], second: &[u8]) -> Resu
     requires end { ForSome (D.view disk.old).file (λ f. at ≡ length f) }
     requires low { at ≤ max_file_len }
     requires few { length first.now + length second.now < max_file_len }
-    ensures written { OnOk result (IsMapped (λ f. f ++ (first.now ++ second.now)) (D.view disk.old) (D.view disk.new)) }
+    ensures written { OnOk result (IsMapped (λ f. f ++ (first.now ++ second.now)) (D.view disk.old)
+        (D.view disk.new)) }
     ensures bound { OnOk result (at + (length first.now + length second.now) ≤ max_file_len) }
     ensures file { Changes (KeepsBefore at) (D.view disk.old).file (D.view disk.new).file }
     ensures run { Runs (KeepsBefore at) (D.view disk.old) (D.view disk.new) }
@@ -54,7 +55,8 @@ fn stage<D: Disk>(disk: &mut D, at: u64, head: &[u8], rest: &[u8]) -> Result<(),
     requires end { ForSome (D.view disk.old).file (λ f. at ≡ length f) }
     requires low { at ≤ max_file_len }
     requires few { length head.now + length rest.now ≤ max_body_len }
-    ensures written { OnOk result (IsMapped (staged (head.now ++ rest.now)) (D.view disk.old) (D.view disk.new)) }
+    ensures written { OnOk result (IsMapped (staged (head.now ++ rest.now)) (D.view disk.old)
+        (D.view disk.new)) }
     ensures settled { OnOk result (IsSettled (D.view disk.new)) }
     ensures bound { OnOk result (at + 4 + (length head.now + length rest.now) < max_file_len) }
     ensures file { Changes (KeepsBefore at) (D.view disk.old).file (D.view disk.new).file }
@@ -79,10 +81,13 @@ pub(crate) fn add_entry<D: Disk>(
     requires some { 0 < length head.now }
     requires few { length head.now + length rest.now ≤ max_body_len }
     requires opened { IsOpened gate (D.view disk.old) }
-    ensures added { OnOk result (Changes (Gains (head.now ++ rest.now)) (D.view disk.old).file (D.view disk.new).file) }
-    ensures opened { OnOk result (IsOpened (gate + (lead_len + (length head.now + length rest.now))) (D.view disk.new)) }
+    ensures added { OnOk result (Changes (Gains (head.now ++ rest.now)) (D.view disk.old).file
+        (D.view disk.new).file) }
+    ensures opened { OnOk result (IsOpened (gate + (lead_len + (length head.now + length rest.now)))
+        (D.view disk.new)) }
     ensures bound { OnOk result (gate + (lead_len + (length head.now + length rest.now)) < max_file_len) }
-    ensures file { Changes (KeepsOrGains (head.now ++ rest.now)) (D.view disk.old).file (D.view disk.new).file }
+    ensures file { Changes (KeepsOrGains (head.now ++ rest.now)) (D.view disk.old).file
+        (D.view disk.new).file }
     ensures leaves { Leaves (KeepsOrGains (head.now ++ rest.now)) (D.view disk.old) (D.view disk.new) }
     ensures link { (D.view disk.new).link ≡ (D.view disk.old).link }
     ensures cause { HasCause (D.view disk.old).faults (D.view disk.new).faults result }

@@ -28,7 +28,8 @@ pub(crate) enum Gate {
 fn gate_of(prefix: &[u8], left: u64) -> Gate
     requires some { 0 < left }
     requires prefix { length prefix.now ≡ min left lead_len }
-    ensures is { (tail : List ℕ) → length tail ≡ left → prefix.now ≡ take (min left lead_len) tail → GateIs tail result }
+    ensures is { (tail : List ℕ) → length tail ≡ left → prefix.now ≡ take (min left lead_len) tail
+        → GateIs tail result }
     ensures fits { Fits result left }
 {
     if prefix[0] != OPEN || left == 1 {
@@ -57,7 +58,8 @@ pub(crate) fn look<D: Disk>(
     requires within { place < end }
     requires room { lead_len ≤ window.old.held }
     requires file { ForSome (D.view disk.old).file (λ f. end ≤ length f) }
-    ensures gate { IfOk result (λ gate. ForSome (D.view disk.old).file (ShowsGate window.old place end gate)) }
+    ensures gate { IfOk result (λ gate. ForSome (D.view disk.old).file
+        (ShowsGate window.old place end gate)) }
     ensures fits { IfOk result (λ gate. Fits gate (end - place)) }
     ensures shows { ForSome (D.view disk.old).file (λ f. Shows window.old f → Shows window.new f) }
     ensures held { window.new.held ≡ window.old.held }

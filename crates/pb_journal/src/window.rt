@@ -18,7 +18,8 @@ fn read_chunk<D: Disk>(disk: &mut D, at: u64, room: &mut [u8], end: u64) -> Resu
     requires within { at ≤ end }
     requires file { ForSome (D.view disk.old).file (λ f. end ≤ length f) }
     ensures count { IfOk result (λ n. n ≡ min (end - at) (length room.old)) }
-    ensures bytes { IfOk result (λ n. ForSome (D.view disk.old).file (λ f. take n room.new ≡ take n (drop at f))) }
+    ensures bytes { IfOk result (λ n. ForSome (D.view disk.old).file
+        (λ f. take n room.new ≡ take n (drop at f))) }
     ensures peeks { Peeks (D.view disk.old) (D.view disk.new) }
     ensures cause { HasCause (D.view disk.old).faults (D.view disk.new).faults result }
 {

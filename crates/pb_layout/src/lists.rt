@@ -52,7 +52,8 @@ fn setting(bytes: &[u8], message_len: usize) -> Result<&[u8], MessageFault>
         (λ left. setting_at (unread (message_len - length bytes.now) bytes.now) ≡ Ok
         (unread (message_len - length left.now) left.now)) }
     ensures shorter { IfOk result (λ left. length left.now ≤ length bytes.now) }
-    ensures refused { IfErr result (λ fault. setting_at (unread (message_len - length bytes.now) bytes.now) ≡ Err fault) }
+    ensures refused { IfErr result (λ fault. setting_at
+        (unread (message_len - length bytes.now) bytes.now) ≡ Err fault) }
 {
     let place = message_len - bytes.len();
     if bytes.len() < 2 {

@@ -6,5 +6,6 @@ ghost use Rattle.pb_packet.specs.Packet.{Seen, packet_of, packet_bytes, IsValid,
 pub fn written_is_read()
     ensures again { (p : Seen) → IsValid p → packet_of (packet_bytes p) ≡ Ok p }
     ensures one_text { (p : Seen) (a b : List ℕ) → PacketBytes p a → PacketBytes p b → a ≡ b }
-    ensures one_packet { (p q : Seen) (content : List ℕ) → PacketBytes p content → PacketBytes q content → p ≡ q }
+    ensures one_packet { (p q : Seen) (content : List ℕ) → PacketBytes p content
+        → PacketBytes q content → p ≡ q }
 {}

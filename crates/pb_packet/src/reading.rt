@@ -8,7 +8,8 @@ use pb_base::NodeId;
 /// Reads the content of a frame, its body without the nullifier, as a packet.
 pub fn read(content: &[u8]) -> Result<Packet<'_>, PacketFault>
     requires { (length content.now ≡ 4) ⊎ (8 ≤ length content.now) }
-    ensures exact { MatchResult result (λ p. packet_of content.now ≡ Ok (seen_of p)) (λ e. packet_of content.now ≡ Err e) }
+    ensures exact { MatchResult result (λ p. packet_of content.now ≡ Ok (seen_of p))
+        (λ e. packet_of content.now ≡ Err e) }
     ensures found { IfOk result (λ p. PacketBytes (seen_of p) content.now) }
     ensures only { (p : Seen) → PacketBytes p content.now → IsOkAnd result (λ q. seen_of q ≡ p) }
 {
@@ -18,7 +19,8 @@ pub fn read(content: &[u8]) -> Result<Packet<'_>, PacketFault>
 // The packet, or the first fault.
 fn packet(content: &[u8]) -> Result<Packet<'_>, PacketFault>
     requires { (length content.now ≡ 4) ⊎ (8 ≤ length content.now) }
-    ensures { MatchResult result (λ p. packet_of content.now ≡ Ok (seen_of p)) (λ e. packet_of content.now ≡ Err e) }
+    ensures { MatchResult result (λ p. packet_of content.now ≡ Ok (seen_of p))
+        (λ e. packet_of content.now ≡ Err e) }
 {
     let phys = phys(content)?;
     if content.len() == 4 {

@@ -44,7 +44,8 @@ impl Ring {
     pub fn new(alloc: Global, layout: Layout, capacity: u32) -> Result<Ring, Memory>
         requires some { 1 ≤ capacity }
         requires few { capacity * content_len layout ≤ RING_BYTES_MAX }
-        ensures made { IfOk result (λ ring. (ring.record_len ≡ layout.record_len) × (ring.capacity ≡ capacity)) }
+        ensures made { IfOk result (λ ring. (ring.record_len ≡ layout.record_len)
+            × (ring.capacity ≡ capacity)) }
         ensures stands { IfOk result (λ ring. StandsFor ring []) }
     {
         let room = capacity as usize * layout.content_len();
@@ -63,7 +64,8 @@ impl Ring {
     /// cost is that of one content, and it takes no memory.
     pub fn store(&mut self, time: Nsec, bytes: &[u8]) -> Result<RecNo, Spent>
         requires { length bytes.now ≡ self.old.record_len }
-        ensures made { (self.new.record_len ≡ self.old.record_len) × (self.new.capacity ≡ self.old.capacity) }
+        ensures made { (self.new.record_len ≡ self.old.record_len)
+            × (self.new.capacity ≡ self.old.capacity) }
         ensures stores { (all : List StoredRecord) → StandsFor self.old all
             → Stores all (record { time = time; bytes = bytes.now }) self.old self.new result }
     {
@@ -97,7 +99,8 @@ impl Ring {
     /// many bytes as `out` has. False exactly where the number isn't held or the part passes the content. Its cost is
     /// that of the part.
     pub fn copy_into(&self, number: RecNo, offset: u32, out: &mut [u8]) -> bool
-        ensures held { IsTrue result ↔ (IsHeld self.now number.0 × IsWithin self.now offset (length out.old)) }
+        ensures held { IsTrue result ↔ (IsHeld self.now number.0
+            × IsWithin self.now offset (length out.old)) }
         ensures copied { (all : List StoredRecord) → StandsFor self.now all → IsTrue result
             → CopiesPart all number.0 offset (length out.old) out.new }
         ensures unchanged { result ≡ false → out.new ≡ out.old }

@@ -90,7 +90,8 @@ impl Draft {
         requires empty { table.stored ≡ 0 }
         ensures added { OnOk result (CanDeclare self.old table × (self.new ≡ with_table self.old table)) }
         ensures stays { OnErr result (self.new ≡ self.old) }
-        ensures refused { IfErr result (λ fault. fault ≡ LineFault.Refused → CanDeclare self.old table → ⊥) }
+        ensures refused { IfErr result (λ fault. fault ≡ LineFault.Refused → CanDeclare self.old table
+            → ⊥) }
     {
         if self.storing || self.tables.len() >= TABLES_MAX {
             return Err(LineFault::Refused);
@@ -114,7 +115,8 @@ impl Draft {
     // Stores so many records more in the table of this name, where it may hold them.
     fn store(&mut self, name: Name, n: u32) -> Result<(), LineFault>
         requires { IsScriptName name }
-        ensures added { OnOk result ((place : ℕ) × CanStore self.old name place n × (self.new ≡ with_store self.old place n)) }
+        ensures added { OnOk result ((place : ℕ) × CanStore self.old name place n
+            × (self.new ≡ with_store self.old place n)) }
         ensures refused { IfErr result (λ fault. (place : ℕ) → CanStore self.old name place n → ⊥) }
     {
         let place = match place_of(&self.tables, name) {
@@ -138,7 +140,8 @@ impl Draft {
     pub(crate) fn take_line<'a>(&mut self, text: &'a [u8]) -> Result<&'a [u8], LineFault>
         ensures taken { IfOk result (λ rest. TakesLine self.old text.entry.now self.new rest.now) }
         ensures shorter { IfOk result (λ rest. length rest.now < length text.entry.now) }
-        ensures refused { IfErr result (λ fault. fault ≡ LineFault.Refused → TakesNone self.old text.entry.now) }
+        ensures refused { IfErr result (λ fault. fault ≡ LineFault.Refused
+            → TakesNone self.old text.entry.now) }
     {
         let name = self.station().name;
         if let Some(next) = read_table(name.bytes(), text) {

@@ -25,7 +25,8 @@ struct Shaped<'a> {
 
 // The last four words of a table's line.
 fn read_shape(text: &[u8]) -> Option<Shaped>
-    ensures { MatchOption result ((shape : Shape) (rest : List ℕ) → IsShape shape → text.now ≡ shape_text shape rest → ⊥)
+    ensures { MatchOption result ((shape : Shape) (rest : List ℕ) → IsShape shape
+        → text.now ≡ shape_text shape rest → ⊥)
         (λ r. IsShape r.shape × (text.now ≡ shape_text r.shape r.rest.now)) }
 {
     let size = match number_until(text, SPACE) {
@@ -68,7 +69,8 @@ pub(crate) struct NextTable<'a> {
 
 /// The table that the next line declares at this station; none where no such line comes next.
 pub(crate) fn read_table<'a>(station: &[u8], text: &'a [u8]) -> Option<NextTable<'a>>
-    ensures { MatchOption result ((t : ScriptTable) (rest : List ℕ) → IsScriptTable t → text.entry.now ≡ table_line station.now t rest → ⊥)
+    ensures { MatchOption result ((t : ScriptTable) (rest : List ℕ) → IsScriptTable t
+        → text.entry.now ≡ table_line station.now t rest → ⊥)
         (λ r. IsScriptTable r.table × (r.table.stored ≡ 0) × (text.entry.now ≡ table_line station.now r.table r.rest.now)) }
 {
     let rest = match after_station(text, b"table ", station) {
@@ -133,7 +135,8 @@ pub(crate) struct Asker<'a> {
 
 /// The address of the first line; none where no such line comes first.
 pub(crate) fn read_self(text: &[u8]) -> Option<Asker>
-    ensures { MatchOption result ((me : ℕ) (rest : List ℕ) → IsAddress me → text.now ≡ self_line me rest → ⊥)
+    ensures { MatchOption result ((me : ℕ) (rest : List ℕ) → IsAddress me
+        → text.now ≡ self_line me rest → ⊥)
         (λ r. IsAddress r.me × (text.now ≡ self_line r.me r.rest.now)) }
 {
     let rest = match after(text, b"self ") {
@@ -173,7 +176,8 @@ pub(crate) struct NextStation<'a> {
 /// The station of the second line; none where no such line comes next.
 pub(crate) fn read_station(me: NodeId, text: &[u8]) -> Option<NextStation>
     requires { IsAddress me }
-    ensures { MatchOption result ((s : Script) (rest : List ℕ) → CanBegin s → s.me ≡ me → text.now ≡ station_line s rest → ⊥)
+    ensures { MatchOption result ((s : Script) (rest : List ℕ) → CanBegin s → s.me ≡ me
+        → text.now ≡ station_line s rest → ⊥)
         (λ r. CanBegin (begun me r.station) × (text.now ≡ station_line (begun me r.station) r.rest.now)) }
 {
     let rest = match after(text, b"station ") {

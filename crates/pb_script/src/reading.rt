@@ -35,8 +35,10 @@ pub(crate) fn read_draft(alloc: Global, text: &[u8]) -> Result<Draft, ScriptFaul
 // Adds what all further lines say.
 fn read_lines(draft: &mut Draft, text: &[u8]) -> Result<(), ScriptFault>
     requires { length text.now ≤ SCRIPT_TEXT_MAX }
-    ensures read { (whole : List ℕ) → Says whole 2 draft.old text.now → OnOk result (ServedText draft.new whole) }
-    ensures refused { (whole : List ℕ) → Says whole 2 draft.old text.now → IfErr result (ScriptRefuses whole) }
+    ensures read { (whole : List ℕ) → Says whole 2 draft.old text.now
+        → OnOk result (ServedText draft.new whole) }
+    ensures refused { (whole : List ℕ) → Says whole 2 draft.old text.now
+        → IfErr result (ScriptRefuses whole) }
 {
     let mut rest = text;
     let mut lines = 2;

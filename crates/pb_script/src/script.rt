@@ -94,7 +94,8 @@ impl Script {
 
     // The station before anything is stored. There always is one, where there is memory.
     fn empty_station(&self, alloc: Global) -> Result<Station, StationFault>
-        ensures made { IfOk result (λ station. IsFilling station self.now.tables 0 0 × (station.device ≡ (state_of self.now).device)) }
+        ensures made { IfOk result (λ station. IsFilling station self.now.tables 0 0
+            × (station.device ≡ (state_of self.now).device)) }
         ensures memory { IfErr result (λ fault. fault ≡ StationFault.Memory) }
     {
         let station = self.draft.station();

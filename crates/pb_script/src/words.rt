@@ -62,7 +62,8 @@ pub(crate) fn after<'a>(text: &'a [u8], prefix: &[u8]) -> Option<&'a [u8]>
 
 /// What comes after a word with its space, and the station's name with one.
 pub(crate) fn after_station<'a>(text: &'a [u8], word: &[u8], station: &[u8]) -> Option<&'a [u8]>
-    ensures { MatchOption result ((rest : List ℕ) → text.entry.now ≡ word.now ++ (station.now ++ space ∷ rest) → ⊥)
+    ensures { MatchOption result ((rest : List ℕ)
+        → text.entry.now ≡ word.now ++ (station.now ++ space ∷ rest) → ⊥)
         (λ r. text.entry.now ≡ word.now ++ (station.now ++ space ∷ r.now)) }
 {
     let rest = match after(text, word) {
@@ -89,7 +90,8 @@ pub(crate) struct Numbered<'a> {
 /// The number that comes first and ends with this byte, which is no digit.
 pub(crate) fn number_until(text: &[u8], stop: u8) -> Option<Numbered>
     requires { stop < 48 }
-    ensures { MatchOption result ((n : ℕ) (rest : List ℕ) → n < 2 ^ 32 → text.now ≡ decimal n ++ stop ∷ rest → ⊥)
+    ensures { MatchOption result ((n : ℕ) (rest : List ℕ) → n < 2 ^ 32
+        → text.now ≡ decimal n ++ stop ∷ rest → ⊥)
         (λ r. (r.n < 2 ^ 32) × (text.now ≡ decimal r.n ++ stop ∷ r.rest.now)) }
 {
     let halves = match cut_at(text, stop) {
@@ -114,7 +116,8 @@ fn is_name_byte(byte: u8) -> bool
 
 // The name of these bytes; none where they are none.
 fn name_of(bytes: &[u8]) -> Option<Name>
-    ensures { MatchOption result (IsScriptName bytes.now → ⊥) (λ name. (name ≡ bytes.now) × IsScriptName name) }
+    ensures { MatchOption result (IsScriptName bytes.now → ⊥)
+        (λ name. (name ≡ bytes.now) × IsScriptName name) }
 {
     if bytes.is_empty() || bytes.len() > NAME_MAX {
         return None;
@@ -134,7 +137,8 @@ pub(crate) struct Named<'a> {
 
 /// The name that comes first and ends with a space.
 pub(crate) fn name_until_space(text: &[u8]) -> Option<Named>
-    ensures { MatchOption result ((name rest : List ℕ) → IsScriptName name → text.now ≡ name ++ space ∷ rest → ⊥)
+    ensures { MatchOption result ((name rest : List ℕ) → IsScriptName name
+        → text.now ≡ name ++ space ∷ rest → ⊥)
         (λ r. IsScriptName r.name × (text.now ≡ r.name ++ space ∷ r.rest.now)) }
 {
     let halves = match cut_at(text, SPACE) {
@@ -159,7 +163,8 @@ pub(crate) struct Typed<'a> {
 
 /// The field's type that comes first and ends with a space.
 pub(crate) fn kind_until_space(text: &[u8]) -> Option<Typed>
-    ensures { MatchOption result ((kind : Kind) (rest : List ℕ) → text.now ≡ kind_text kind ++ space ∷ rest → ⊥)
+    ensures { MatchOption result ((kind : Kind) (rest : List ℕ)
+        → text.now ≡ kind_text kind ++ space ∷ rest → ⊥)
         (λ r. text.now ≡ kind_text r.kind ++ space ∷ r.rest.now) }
 {
     if let Some(rest) = after(text, b"fp2 ") {

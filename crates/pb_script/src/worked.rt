@@ -13,5 +13,6 @@ fn records_are_worked()
         (values_of Kind.Fp2 1 3 ≡ 0x40 ∷ 0x0A ∷ 0x40 ∷ 0x0B ∷ 0x40 ∷ 0x0C ∷ [])
         × (values_of Kind.Fp2 400 1 ≡ 0x40 ∷ 0x00 ∷ [])
         × (values_of Kind.Ascii 25 2 ≡ 0x5A ∷ 0x41 ∷ [])
-        × (record_len hourly ≡ 6) × (ring_bytes events ≡ 55) × (second_of hourly 2 ≡ 7200) × (second_of events 2 ≡ 2) }
+        × (record_len hourly ≡ 6) × (ring_bytes events ≡ 55) × (second_of hourly 2 ≡ 7200)
+        × (second_of events 2 ≡ 2) }
 {}

@@ -20,9 +20,11 @@ const PACKET_MAX: usize = 1008;
 fn reply(station: &mut Station, content: &[u8], packet: &mut [u8; PACKET_MAX]) -> Option<usize>
     requires size { IsContentSize (length content.now) }
     requires alive { (state : State) × StandsFor station.old state }
-    ensures leaves { (state : State) → StandsFor station.old state → StandsFor station.new (owed state content.now).state }
+    ensures leaves { (state : State) → StandsFor station.old state
+        → StandsFor station.new (owed state content.now).state }
     ensures owes { (state : State) → StandsFor station.old state
-        → MatchOption result ((owed state content.now).frames ≡ []) (λ n. (owed state content.now).frames ≡ frame (take n packet.new) ∷ []) }
+        → MatchOption result ((owed state content.now).frames ≡ [])
+        (λ n. (owed state content.now).frames ≡ frame (take n packet.new) ∷ []) }
     ensures size { MatchOption result (Unit {0}) (λ n. IsContentSize n) }
 {
     let Ok(Packet::Full(header, message)) = pb_packet::read(content) else {
@@ -42,9 +44,11 @@ pub(crate) fn send_reply<S: Site>(
 ) -> Result<(), Failed>
     requires size { IsContentSize (length content.now) }
     requires alive { (state : State) × StandsFor station.old state }
-    ensures leaves { (state : State) → StandsFor station.old state → StandsFor station.new (owed state content.now).state }
+    ensures leaves { (state : State) → StandsFor station.old state
+        → StandsFor station.new (owed state content.now).state }
     ensures sends { (state : State) → StandsFor station.old state
-        → SendsOwed (owed state content.now).frames (S.view site.old).link.world (S.view site.new).link.world result }
+        → SendsOwed (owed state content.now).frames (S.view site.old).link.world
+        (S.view site.new).link.world result }
     ensures talks { Talks (S.view site.old) (S.view site.new) }
     ensures cause { HasCause (S.view site.old).link.faults (S.view site.new).link.faults result }
 {

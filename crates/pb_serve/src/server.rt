@@ -89,7 +89,8 @@ impl Server {
         requires going { IsGoing self.old }
         requires alive { IsAlive self.old }
         ensures ends { (first : State) → Stands first self.old [] []
-            → (w : World) × GrowsBy (S.view site.old).link.world (S.view site.new).link.world w × Ends first self.old.goal w result }
+            → (w : World) × GrowsBy (S.view site.old).link.world (S.view site.new).link.world w
+            × Ends first self.old.goal w result }
         ensures talks { Talks (S.view site.old) (S.view site.new) }
         ensures faults { Counts (Some result) (S.view site.old).link.faults (S.view site.new).link.faults }
     {
@@ -111,7 +112,8 @@ impl Server {
         requires alive { IsAlive self.old }
         requires few { length bytes.now ≤ CHUNK }
         ensures takes { (first : State) (w : World) → Stands first self.old w []
-            → Takes first self.old.goal w bytes.now (S.view site.old).link (S.view site.new).link result self.new }
+            → Takes first self.old.goal w bytes.now (S.view site.old).link (S.view site.new).link
+            result self.new }
         ensures goes { GoesFurther result self.old self.new }
         ensures talks { Talks (S.view site.old) (S.view site.new) }
         ensures faults { Counts result (S.view site.old).link.faults (S.view site.new).link.faults }
@@ -127,7 +129,8 @@ impl Server {
     fn tick(&mut self) -> Option<End>
         requires { IsGoing self.old }
         ensures quiets { self.new ≡ record self.old { quiets = self.old.quiets + 1 } }
-        ensures ends { MatchOption result (IsGoing self.new) (λ end. (end ≡ End.Idle) × (self.new.quiets ≡ IDLE)) }
+        ensures ends { MatchOption result (IsGoing self.new)
+            (λ end. (end ≡ End.Idle) × (self.new.quiets ≡ IDLE)) }
     {
         self.quiets += 1;
         if self.quiets == IDLE {
@@ -141,7 +144,8 @@ impl Server {
         requires going { IsGoing self.old }
         requires alive { IsAlive self.old }
         ensures leads { (first : State) (w : World) → Stands first self.old w bytes.now
-            → Leads first self.old.goal w (S.view site.old).link (S.view site.new).link result self.new [] }
+            → Leads first self.old.goal w (S.view site.old).link (S.view site.new).link result
+            self.new [] }
         ensures goes { GoesOn result (length bytes.now) self.old self.new }
         ensures talks { Talks (S.view site.old) (S.view site.new) }
         ensures faults { Counts result (S.view site.old).link.faults (S.view site.new).link.faults }
@@ -164,7 +168,8 @@ impl Server {
         requires some { 0 < length bytes.now }
         ensures taken { (0 < result.taken) × (result.taken ≤ length bytes.now) }
         ensures leads { (first : State) (w : World) → Stands first self.old w bytes.now
-            → Leads first self.old.goal w (S.view site.old).link (S.view site.new).link result.end self.new (drop result.taken bytes.now) }
+            → Leads first self.old.goal w (S.view site.old).link (S.view site.new).link result.end
+            self.new (drop result.taken bytes.now) }
         ensures goes { GoesOn result.end result.taken self.old self.new }
         ensures talks { Talks (S.view site.old) (S.view site.new) }
         ensures faults { Counts result.end (S.view site.old).link.faults (S.view site.new).link.faults }
@@ -184,7 +189,8 @@ impl Server {
 
     // Whether so many bytes came without a good frame.
     fn flooded(&self) -> Option<End>
-        ensures { MatchOption result (self.now.since < FLOOD) (λ end. (end ≡ End.Flooded) × (self.now.since ≡ FLOOD)) }
+        ensures { MatchOption result (self.now.since < FLOOD)
+            (λ end. (end ≡ End.Flooded) × (self.now.since ≡ FLOOD)) }
     {
         if self.since >= FLOOD {
             return Some(End::Flooded);
@@ -210,7 +216,8 @@ impl Server {
     fn judge<S: Site>(&mut self, site: &mut S, byte: u8) -> Option<End>
         requires going { IsGoing self.old }
         requires alive { IsAlive self.old }
-        ensures leads { LeadsByte byte self.old (S.view site.old).link (S.view site.new).link result self.new }
+        ensures leads { LeadsByte byte self.old (S.view site.old).link (S.view site.new).link result
+            self.new }
         ensures goes { GoesOn result 1 self.old self.new }
         ensures talks { Talks (S.view site.old) (S.view site.new) }
         ensures faults { Counts result (S.view site.old).link.faults (S.view site.new).link.faults }
@@ -237,7 +244,8 @@ impl Server {
 
     // Whether all good frames came.
     fn done(&self) -> Option<End>
-        ensures { MatchOption result (self.now.good < self.now.goal) (λ end. (end ≡ End.Done) × (self.now.good ≡ self.now.goal)) }
+        ensures { MatchOption result (self.now.good < self.now.goal)
+            (λ end. (end ≡ End.Done) × (self.now.good ≡ self.now.goal)) }
     {
         if self.good == self.goal {
             return Some(End::Done);

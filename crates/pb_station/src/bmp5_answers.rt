@@ -147,7 +147,8 @@ impl Device {
         out: &mut [u8; PACKET_MAX],
     ) -> Answered
         ensures answered { (all : List Table) → TablesStandFor tables.now all
-            → let answer = answer_collect (record { device = self.now; tables = all }) tran (collect_keys code asked.entry) in
+            → let answer = answer_collect (record { device = self.now; tables = all }) tran
+            (collect_keys code asked.entry) in
             IsAnswered answer self.now self.now header.now out.old out.new result }
         ensures within { FitsPacket result }
     {

@@ -46,7 +46,8 @@ pub(crate) fn collect(
     ensures within { IfOk result (λ n. n ≤ BODY_MAX) }
     ensures refused { IfErr result (λ resp. 0 < resp) }
     ensures collected { (all : List Table) → TablesStandFor tables.now all → (code : ℕ)
-        → IsCollected (collected all (collect_keys code asked.entry)) asked.entry.table.0 body.old body.new result }
+        → IsCollected (collected all (collect_keys code asked.entry)) asked.entry.table.0 body.old
+        body.new result }
 {
     let Some(held) = numbered(tables, asked.table) else {
         return Err(OTHER_SIGNATURE);
@@ -59,7 +60,8 @@ fn answer_table(held: &HeldTable, asked: Command, body: &mut [u8; BODY_MAX]) -> 
     ensures within { IfOk result (λ n. n ≤ BODY_MAX) }
     ensures refused { IfErr result (λ resp. 0 < resp) }
     ensures collected { (all : Table) → TableStandsFor held.now all → (code : ℕ)
-        → IsCollected (of_table (Some all) (collect_keys code asked.entry)) asked.entry.table.0 body.old body.new result }
+        → IsCollected (of_table (Some all) (collect_keys code asked.entry)) asked.entry.table.0
+        body.old body.new result }
 {
     if held.signature() != asked.sig {
         return Err(OTHER_SIGNATURE);

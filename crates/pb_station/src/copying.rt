@@ -91,7 +91,8 @@ fn copy_run(held: &HeldTable, records: Records, out: &mut [u8]) -> usize
     requires fits { run_len held.now.layout records.count ≤ length out.old }
     ensures len { result ≡ run_len held.now.layout records.count }
     ensures written { (all : List StoredRecord) → StandsFor held.now.ring all
-        → IsWritten (run_bytes held.now.layout (take records.count (drop records.first all))) out.old out.new result }
+        → IsWritten (run_bytes held.now.layout (take records.count (drop records.first all))) out.old
+        out.new result }
 {
     let len = held.layout().record_len as usize;
     if held.layout().event {
@@ -139,7 +140,8 @@ fn copy_held(ring: &Ring, number: u32, offset: u32, out: &mut [u8])
 
 /// The table's number, the first record's, and how many there are.
 fn records_head(records: Records) -> [u8; RUN_HEAD]
-    ensures { result ≡ to_be_bytes w16 records.table.0 ++ (to_be_bytes w32 records.first ++ to_be_bytes w16 records.count) }
+    ensures { result ≡ to_be_bytes w16 records.table.0 ++
+        (to_be_bytes w32 records.first ++ to_be_bytes w16 records.count) }
 {
     let [a, b] = records.table.0.to_be_bytes();
     let [c, d, e, f] = records.first.to_be_bytes();
@@ -150,7 +152,8 @@ fn records_head(records: Records) -> [u8; RUN_HEAD]
 /// The table's number, the record's, and under the bit that says so the place in its content.
 fn part_head(part: Part) -> [u8; PART_HEAD]
     requires { part.offset < 2 ^ 31 }
-    ensures { result ≡ to_be_bytes w16 part.table.0 ++ (to_be_bytes w32 part.number ++ to_be_bytes w32 (2 ^ 31 + part.offset)) }
+    ensures { result ≡ to_be_bytes w16 part.table.0 ++
+        (to_be_bytes w32 part.number ++ to_be_bytes w32 (2 ^ 31 + part.offset)) }
 {
     let [a, b] = part.table.0.to_be_bytes();
     let [c, d, e, f] = part.number.to_be_bytes();

@@ -109,7 +109,8 @@ impl Device {
 
     /// Takes bytes of a file that is downloaded, and answers the response code.
     pub(crate) fn download(&mut self, name: &[u8], offset: u32, bytes: &[u8]) -> u8
-        ensures { DeviceBecomes (download self.old.files name.now offset bytes.now) self.old self.new result }
+        ensures { DeviceBecomes (download self.old.files name.now offset bytes.now) self.old self.new
+            result }
     {
         self.files.download(name, offset, bytes)
     }

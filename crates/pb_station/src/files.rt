@@ -94,7 +94,8 @@ impl Files {
 
     fn go_on(&mut self, place: usize, offset: u32, bytes: &[u8]) -> u8
         requires { place < length self.old }
-        ensures { Becomes (goes_on self.old place (slice_get self.old place) offset bytes.now) self.new result }
+        ensures { Becomes (goes_on self.old place (slice_get self.old place) offset bytes.now)
+            self.new result }
     {
         if !self.slots[place].take_part(offset, bytes) {
             return NO_ROOM;

@@ -20,7 +20,8 @@ ghost use Rattle.pb_station.specs.Truth.{TellsTable, IsCollect, request_of, Answ
 /// What a station answers to a collect command is a full reply, over every history whose records of the table are those
 /// that were stored in it: it is true at the table's present stage, or it has another response code than 0.
 pub fn collect_is_answered_fully()
-    ensures { (kept : KeptStation) (s : State) (header : Header) (message : List ℕ) (tran : ℕ) (c : CollectKeys)
+    ensures { (kept : KeptStation) (s : State) (header : Header) (message : List ℕ) (tran : ℕ)
+        (c : CollectKeys)
         (history : TableKey → History) → StandsFor kept s → IsCollect s header message tran c
         → TellsTable (numbered s.tables c.table) c.sig (history (request_of header tran c).table)
         → AnswersFully s header tran c history (answer_of s header message) }

@@ -20,7 +20,8 @@ pub(crate) fn tables_of(
     alloc: Global,
     definitions: &Definitions,
 ) -> Result<Vec<HeldTable>, StationFault>
-    ensures made { IfOk result (λ tables. (first_fault 1 0 definitions.now ≡ None) × AreMade definitions.now tables.items) }
+    ensures made { IfOk result (λ tables. (first_fault 1 0 definitions.now ≡ None)
+        × AreMade definitions.now tables.items) }
     ensures refused { IfErr result (λ fault. IsFirstFault (first_fault 1 0 definitions.now) fault) }
 {
     let count = definitions.count();

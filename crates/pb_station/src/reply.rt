@@ -35,7 +35,8 @@ pub(crate) fn reply_ctrl(
 ) -> Answered
     requires valid { ctrl.Valid (ctrl.message_of message.now) }
     requires fits { length (ctrl.message_bytes (ctrl.message_of message.now)) ≤ 1000 }
-    ensures answered { Replies (ctrl_packet address header.now (ctrl.message_of message.now)) out.old out.new result }
+    ensures answered { Replies (ctrl_packet address header.now (ctrl.message_of message.now)) out.old
+        out.new result }
     ensures within { FitsPacket result }
 {
     let len = pb_ctrl::write(message, &mut out[HEADER_LEN..]).unwrap();
@@ -52,7 +53,8 @@ pub(crate) fn reply_bmp5(
 ) -> Answered
     requires valid { bmp5.Valid (bmp5.message_of message.now) }
     requires fits { length (bmp5.message_bytes (bmp5.message_of message.now)) ≤ 1000 }
-    ensures answered { Replies (bmp5_packet address header.now (bmp5.message_of message.now)) out.old out.new result }
+    ensures answered { Replies (bmp5_packet address header.now (bmp5.message_of message.now)) out.old
+        out.new result }
     ensures within { FitsPacket result }
 {
     let len = pb_bmp5::write(message, &mut out[HEADER_LEN..]).unwrap();
@@ -69,7 +71,8 @@ pub(crate) fn fail(
     out: &mut [u8; PACKET_MAX],
 ) -> Answered
     requires { FitsHeader header.now }
-    ensures answered { IsSaid address header.now (failure err header.now message.now) out.old out.new result }
+    ensures answered { IsSaid address header.now (failure err header.now message.now) out.old out.new
+        result }
     ensures within { FitsPacket result }
 {
     let tran = if message.len() < 2 { 0 } else { message[1] };

@@ -63,7 +63,8 @@ pub(crate) fn run_of(ring: &Ring, mode: Mode) -> Run
 fn run_of_times(ring: &Ring, span: Span) -> Run
     ensures within { (oldest_of ring.now ≤ result.from) × (result.to ≤ ring.now.next) }
     ensures run { (all : List StoredRecord) → StandsFor ring.now all
-        → seen_run result ≡ run_of (asked.Times span.from span.to) (history_in ring.now all) (stage_in ring.now) }
+        → seen_run result ≡ run_of (asked.Times span.from span.to) (history_in ring.now all)
+        (stage_in ring.now) }
 {
     let from = first_inside(ring, span);
     Run {

@@ -93,7 +93,8 @@ impl Station {
     pub fn store(&mut self, table: TableNo, time: Nsec, bytes: &[u8]) -> Result<RecNo, Spent>
         requires { HasTable self.old.tables table.0 (length bytes.now) }
         ensures { (state : State) → StandsFor self.old state
-            → StationStores state table.0 (record { time = time; bytes = bytes.now }) self.old self.new result }
+            → StationStores state table.0 (record { time = time; bytes = bytes.now }) self.old
+            self.new result }
     {
         self.tables[usize::from(table.0) - 1].store(time, bytes)
     }

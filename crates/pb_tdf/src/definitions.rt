@@ -42,7 +42,8 @@ impl Definitions {
     /// passes a limit.
     pub fn read(alloc: Global, bytes: &[u8]) -> Result<Definitions, TdfFault>
         // What was read are the tables of the file that the bytes are.
-        ensures found { IfOk result (λ tables. (ds : List Definition) × FileBytes ds bytes.now × (tables ≡ map view_of ds)) }
+        ensures found { IfOk result (λ tables. (ds : List Definition) × FileBytes ds bytes.now
+            × (tables ≡ map view_of ds)) }
         // What is a file's bytes is read.
         ensures only { (ds : List Definition) → FileBytes ds bytes.now → ReadsFile result ds }
         // A refusal is the first fault, at its place.
@@ -52,7 +53,8 @@ impl Definitions {
     }
 
     fn read_whole(alloc: Global, bytes: &[u8]) -> Result<Definitions, TdfFault>
-        ensures found { IfOk result (λ tables. (ds : List Definition) × FileBytes ds bytes.now × (tables ≡ map view_of ds)) }
+        ensures found { IfOk result (λ tables. (ds : List Definition) × FileBytes ds bytes.now
+            × (tables ≡ map view_of ds)) }
         ensures refused { IfErr result (HasCause (FileFault bytes.now)) }
     {
         let mut fields = Fields::new(bytes);

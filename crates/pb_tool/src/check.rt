@@ -21,7 +21,8 @@ use std::alloc::Global;
 
 /// Opens the archive, and prints a line for each of its tables.
 pub fn print<S: Site, O: Sink>(alloc: Global, site: &mut S, out: &mut O) -> Status
-    ensures ran { RanCheck result (S.view site.old) (S.view site.new) (output_view O.Sink out.old) (output_view O.Sink out.new) }
+    ensures ran { RanCheck result (S.view site.old) (S.view site.new) (output_view O.Sink out.old)
+        (output_view O.Sink out.new) }
     ensures leaves { Leaves Keeps (S.view site.old) (S.view site.new) }
     ensures link { (S.view site.new).link ≡ (S.view site.old).link }
     ensures disk { Counts Status.DiskFault result (S.view site.old).faults (S.view site.new).faults }
@@ -46,7 +47,8 @@ fn status_of(answer: &Result<Archive, ArchiveFault>) -> Status
 
 #[tactic(auto, unfolding(crate::specs::Check::answer_text))]
 fn push_answer<O: Sink>(page: &mut Page, answer: &Result<Archive, ArchiveFault>, out: &mut O)
-    ensures { Adds (answer_text (answered answer.now)) (printing O.Sink page.old out.old) (printing O.Sink page.new out.new) }
+    ensures { Adds (answer_text (answered answer.now)) (printing O.Sink page.old out.old)
+        (printing O.Sink page.new out.new) }
 {
     match answer {
         Ok(archive) => push_tables(page, archive, out),
@@ -56,7 +58,8 @@ fn push_answer<O: Sink>(page: &mut Page, answer: &Result<Archive, ArchiveFault>,
 
 // Adds the lines of all tables.
 fn push_tables<O: Sink>(page: &mut Page, archive: &Archive, out: &mut O)
-    ensures { Adds (check_text (register_of archive.now)) (printing O.Sink page.old out.old) (printing O.Sink page.new out.new) }
+    ensures { Adds (check_text (register_of archive.now)) (printing O.Sink page.old out.old)
+        (printing O.Sink page.new out.new) }
 {
     for id in 0..archive.tables() {
         push_table_at(page, archive, TableId(id), out);
@@ -67,7 +70,8 @@ fn push_tables<O: Sink>(page: &mut Page, archive: &Archive, out: &mut O)
 fn push_table_at<O: Sink>(page: &mut Page, archive: &Archive, id: TableId, out: &mut O)
     requires { id.0 < length archive.now.tables }
     ensures { (t : Held) → slice_get archive.now.tables id.0 ≡ Some t
-        → Adds (table_text archive.now.plan t) (printing O.Sink page.old out.old) (printing O.Sink page.new out.new) }
+        → Adds (table_text archive.now.plan t) (printing O.Sink page.old out.old)
+        (printing O.Sink page.new out.new) }
 {
     if let Some(table) = archive.table(id) {
         push_table(page, archive, table, out);
@@ -77,7 +81,8 @@ fn push_table_at<O: Sink>(page: &mut Page, archive: &Archive, id: TableId, out: 
 // Adds the line of a table.
 #[tactic(auto, unfolding(crate::specs::Check::table_text))]
 fn push_table<O: Sink>(page: &mut Page, archive: &Archive, table: TableView, out: &mut O)
-    ensures { Adds (table_text archive.now.plan (seen_table table.entry)) (printing O.Sink page.old out.old)
+    ensures { Adds (table_text archive.now.plan (seen_table table.entry))
+        (printing O.Sink page.old out.old)
         (printing O.Sink page.new out.new) }
 {
     push_names(page, archive, table, out);
@@ -86,7 +91,8 @@ fn push_table<O: Sink>(page: &mut Page, archive: &Archive, table: TableView, out
 
 /// Adds the names of a table's station and of the table.
 pub fn push_names<O: Sink>(page: &mut Page, archive: &Archive, table: TableView, out: &mut O)
-    ensures { Adds (names_text archive.now.plan (seen_table table.entry)) (printing O.Sink page.old out.old)
+    ensures { Adds (names_text archive.now.plan (seen_table table.entry))
+        (printing O.Sink page.old out.old)
         (printing O.Sink page.new out.new) }
 {
     push_escaped(page, name_of(archive, table.station), out);
@@ -107,7 +113,8 @@ pub fn name_of(archive: &Archive, station: u8) -> &[u8]
 // Adds a table's front, how many of its numbers are kept and how many are gaps, and whether it has a stop.
 #[tactic(auto, unfolding(crate::specs::Check::numbers_text))]
 fn push_numbers<O: Sink>(page: &mut Page, table: TableView, out: &mut O)
-    ensures { Adds (numbers_text (seen_table table.entry)) (printing O.Sink page.old out.old) (printing O.Sink page.new out.new) }
+    ensures { Adds (numbers_text (seen_table table.entry)) (printing O.Sink page.old out.old)
+        (printing O.Sink page.new out.new) }
 {
     page.put(
         &[

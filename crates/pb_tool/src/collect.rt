@@ -42,10 +42,12 @@ pub fn print<S: Site, O: Sink>(
     out: &mut O,
 ) -> Status
     requires { IsAllowed (Collect budget) }
-    ensures ran { RanCollect (budget_of budget) result (S.view site.old) (S.view site.new) (output_view O.Sink out.old) (output_view O.Sink out.new) }
+    ensures ran { RanCollect (budget_of budget) result (S.view site.old) (S.view site.new)
+        (output_view O.Sink out.old) (output_view O.Sink out.new) }
     ensures keeps { Keeps (S.view site.old) (S.view site.new) }
     ensures disk { Counts Status.DiskFault result (S.view site.old).faults (S.view site.new).faults }
-    ensures link { Counts Status.LinkFault result (S.view site.old).link.faults (S.view site.new).link.faults }
+    ensures link { Counts Status.LinkFault result (S.view site.old).link.faults
+        (S.view site.new).link.faults }
     ensures writes { Counts Status.WriteFault result (O.write_faults out.old) (O.write_faults out.new) }
     ensures read_fault { result ≢ Status.ReadFault }
 {
@@ -69,7 +71,8 @@ fn budget_of(budget: Option<u32>) -> u32
 
 /// Says why the archive wasn't opened.
 pub(crate) fn refuse<O: Sink>(fault: ArchiveFault, out: &mut O) -> Status
-    ensures closed { Closes (refusal_status fault) result (refusal_text fault) (O.written out.old) (O.written out.new) }
+    ensures closed { Closes (refusal_status fault) result (refusal_text fault) (O.written out.old)
+        (O.written out.new) }
     ensures writes { Counts Status.WriteFault result (O.write_faults out.old) (O.write_faults out.new) }
 {
     let mut page = Page::new();
@@ -87,11 +90,13 @@ fn round<S: Site, O: Sink>(
     requires budget { IsBudget budget }
     requires opened { IsOpen collector.old.archive (S.view site.old) }
     requires usable { collector.old.ended ≡ false }
-    ensures ran { RanRound budget result (register_of collector.old.archive) (S.view site.old) (S.view site.new)
+    ensures ran { RanRound budget result (register_of collector.old.archive) (S.view site.old)
+        (S.view site.new)
         (output_view O.Sink out.old) (output_view O.Sink out.new) }
     ensures keeps { Keeps (S.view site.old) (S.view site.new) }
     ensures disk { Counts Status.DiskFault result (S.view site.old).faults (S.view site.new).faults }
-    ensures link { Counts Status.LinkFault result (S.view site.old).link.faults (S.view site.new).link.faults }
+    ensures link { Counts Status.LinkFault result (S.view site.old).link.faults
+        (S.view site.new).link.faults }
     ensures writes { Counts Status.WriteFault result (O.write_faults out.old) (O.write_faults out.new) }
     ensures read_fault { result ≢ Status.ReadFault }
 {
@@ -121,7 +126,8 @@ fn status_of(round: RoundResult) -> Status
 // Adds the closing line of a round that was broken off.
 #[tactic(auto, unfolding(crate::specs::Collect::fault_line))]
 fn push_fault<O: Sink>(page: &mut Page, round: RoundResult, out: &mut O)
-    ensures { Adds (fault_line round) (printing O.Sink page.old out.old) (printing O.Sink page.new out.new) }
+    ensures { Adds (fault_line round) (printing O.Sink page.old out.old)
+        (printing O.Sink page.new out.new) }
 {
     match round {
         RoundResult::Done => {}
@@ -135,7 +141,8 @@ fn push_fault<O: Sink>(page: &mut Page, round: RoundResult, out: &mut O)
 fn push_report<O: Sink>(page: &mut Page, archive: &Archive, outcomes: &[Outcome], out: &mut O)
     requires order { AreInOrder 0 outcomes.now }
     requires there { length outcomes.now ≤ length archive.now.tables }
-    ensures { Adds (report_text archive.now.plan archive.now.tables outcomes.now) (printing O.Sink page.old out.old)
+    ensures { Adds (report_text archive.now.plan archive.now.tables outcomes.now)
+        (printing O.Sink page.old out.old)
         (printing O.Sink page.new out.new) }
 {
     for outcome in outcomes {
@@ -147,7 +154,8 @@ fn push_report<O: Sink>(page: &mut Page, archive: &Archive, outcomes: &[Outcome]
 fn push_outcome_at<O: Sink>(page: &mut Page, archive: &Archive, outcome: &Outcome, out: &mut O)
     requires { outcome.now.table.0 < length archive.now.tables }
     ensures { (t : Held) → slice_get archive.now.tables outcome.now.table.0 ≡ Some t
-        → Adds (line_text archive.now.plan t outcome.now) (printing O.Sink page.old out.old) (printing O.Sink page.new out.new) }
+        → Adds (line_text archive.now.plan t outcome.now) (printing O.Sink page.old out.old)
+        (printing O.Sink page.new out.new) }
 {
     if let Some(table) = archive.table(outcome.table) {
         push_outcome(page, archive, table, outcome, out);
@@ -163,7 +171,8 @@ fn push_outcome<O: Sink>(
     outcome: &Outcome,
     out: &mut O,
 )
-    ensures { Adds (line_text archive.now.plan (seen_table table.entry) outcome.now) (printing O.Sink page.old out.old)
+    ensures { Adds (line_text archive.now.plan (seen_table table.entry) outcome.now)
+        (printing O.Sink page.old out.old)
         (printing O.Sink page.new out.new) }
 {
     push_names(page, archive, table, out);
@@ -175,7 +184,8 @@ fn push_outcome<O: Sink>(
 // Adds a table's fronts, the gap numbers that were added, and the requests made.
 #[tactic(auto, unfolding(crate::specs::Collect::numbers_text))]
 fn push_numbers<O: Sink>(page: &mut Page, outcome: &Outcome, out: &mut O)
-    ensures { Adds (numbers_text outcome.now) (printing O.Sink page.old out.old) (printing O.Sink page.new out.new) }
+    ensures { Adds (numbers_text outcome.now) (printing O.Sink page.old out.old)
+        (printing O.Sink page.new out.new) }
 {
     page.put(
         &[
@@ -217,7 +227,8 @@ fn push_end<O: Sink>(page: &mut Page, end: End, out: &mut O)
 
 // Adds the signature that the archive has, and the one that the station has now, where it was told.
 fn push_redefined<O: Sink>(page: &mut Page, old: u16, told: Option<u16>, out: &mut O)
-    ensures { Adds (redefined_text old told) (printing O.Sink page.old out.old) (printing O.Sink page.new out.new) }
+    ensures { Adds (redefined_text old told) (printing O.Sink page.old out.old)
+        (printing O.Sink page.new out.new) }
 {
     page.push(b"redefined ", out);
     push_hex(page, &old.to_be_bytes(), out);

@@ -68,7 +68,8 @@ fn perform<S: Site, I: Source, O: Sink>(
     ensures may_leave { MayLeave (Some (order_of command.now)) result
         (outside S.Disk I.Source O.Sink site.old input.old out.old)
         (outside S.Disk I.Source O.Sink site.new input.new out.new) }
-    ensures leaves { Leaves S.Disk (uses (Some (order_of command.now))) site.old input.old site.new input.new }
+    ensures leaves { Leaves S.Disk (uses (Some (order_of command.now))) site.old input.old site.new
+        input.new }
     ensures causes { Causes result
         (outside S.Disk I.Source O.Sink site.old input.old out.old)
         (outside S.Disk I.Source O.Sink site.new input.new out.new) }

@@ -23,10 +23,12 @@ use std::alloc::Global;
 /// Opens the archive, asks each station for its table definitions, and prints a line for each table, or for a station that
 /// fails.
 pub fn print<S: Site, O: Sink>(alloc: Global, site: &mut S, out: &mut O) -> Status
-    ensures ran { RanDefs result (S.view site.old) (S.view site.new) (output_view O.Sink out.old) (output_view O.Sink out.new) }
+    ensures ran { RanDefs result (S.view site.old) (S.view site.new) (output_view O.Sink out.old)
+        (output_view O.Sink out.new) }
     ensures adds { DefsAdds (S.view site.old) (S.view site.new) }
     ensures disk { Counts Status.DiskFault result (S.view site.old).faults (S.view site.new).faults }
-    ensures link { Counts Status.LinkFault result (S.view site.old).link.faults (S.view site.new).link.faults }
+    ensures link { Counts Status.LinkFault result (S.view site.old).link.faults
+        (S.view site.new).link.faults }
     ensures writes { Counts Status.WriteFault result (O.write_faults out.old) (O.write_faults out.new) }
     ensures read_fault { result ≢ Status.ReadFault }
 {
@@ -49,7 +51,8 @@ fn read<S: Site, O: Sink>(
         (output_view O.Sink out.old) (output_view O.Sink out.new) }
     ensures adds { DefsAdds (S.view site.old) (S.view site.new) }
     ensures disk { Counts Status.DiskFault result (S.view site.old).faults (S.view site.new).faults }
-    ensures link { Counts Status.LinkFault result (S.view site.old).link.faults (S.view site.new).link.faults }
+    ensures link { Counts Status.LinkFault result (S.view site.old).link.faults
+        (S.view site.new).link.faults }
     ensures writes { Counts Status.WriteFault result (O.write_faults out.old) (O.write_faults out.new) }
     ensures read_fault { result ≢ Status.ReadFault }
 {
@@ -104,7 +107,8 @@ fn status_of(read: Result<(), DefsFault>, lines: &[DefsLine]) -> Status
 
 // Adds the closing line where the reading was broken off.
 fn push_fault<O: Sink>(page: &mut Page, read: Result<(), DefsFault>, out: &mut O)
-    ensures { Adds (fault_line read) (printing O.Sink page.old out.old) (printing O.Sink page.new out.new) }
+    ensures { Adds (fault_line read) (printing O.Sink page.old out.old)
+        (printing O.Sink page.new out.new) }
 {
     match read {
         Ok(()) => {}
@@ -114,7 +118,8 @@ fn push_fault<O: Sink>(page: &mut Page, read: Result<(), DefsFault>, out: &mut O
 
 #[tactic(auto, unfolding(crate::specs::Defs::broken_line))]
 fn push_broken<O: Sink>(page: &mut Page, fault: DefsFault, out: &mut O)
-    ensures { Adds (broken_line fault) (printing O.Sink page.old out.old) (printing O.Sink page.new out.new) }
+    ensures { Adds (broken_line fault) (printing O.Sink page.old out.old)
+        (printing O.Sink page.new out.new) }
 {
     match fault {
         DefsFault::DiskFault => page.push(b"pakbus: disk fault\n", out),
@@ -136,7 +141,8 @@ fn push_report<O: Sink>(page: &mut Page, archive: &Archive, lines: &[DefsLine], 
 // Adds a line.
 #[tactic(auto, unfolding(crate::specs::Defs::line_text))]
 fn push_line<O: Sink>(page: &mut Page, archive: &Archive, line: &DefsLine, out: &mut O)
-    ensures { Adds (line_text archive.now.plan line.now) (printing O.Sink page.old out.old) (printing O.Sink page.new out.new) }
+    ensures { Adds (line_text archive.now.plan line.now) (printing O.Sink page.old out.old)
+        (printing O.Sink page.new out.new) }
 {
     push_escaped(page, name_of(archive, line.station), out);
     push_rest(page, line, out);
@@ -145,7 +151,8 @@ fn push_line<O: Sink>(page: &mut Page, archive: &Archive, line: &DefsLine, out: 
 // Adds what comes after the station's name.
 #[tactic(auto, unfolding(crate::specs::Defs::rest_text))]
 fn push_rest<O: Sink>(page: &mut Page, line: &DefsLine, out: &mut O)
-    ensures { Adds (rest_text line.now line.now.what) (printing O.Sink page.old out.old) (printing O.Sink page.new out.new) }
+    ensures { Adds (rest_text line.now line.now.what) (printing O.Sink page.old out.old)
+        (printing O.Sink page.new out.new) }
 {
     match line.what {
         DefsWhat::Added => push_table(page, line, b" added\n", out),
@@ -168,7 +175,8 @@ fn push_rest<O: Sink>(page: &mut Page, line: &DefsLine, out: &mut O)
 // Adds a table's name, number and signature, and what came of it.
 #[tactic(auto, unfolding(crate::specs::Defs::table_text))]
 fn push_table<O: Sink>(page: &mut Page, line: &DefsLine, what: &[u8], out: &mut O)
-    ensures { Adds (table_text line.now what.now) (printing O.Sink page.old out.old) (printing O.Sink page.new out.new) }
+    ensures { Adds (table_text line.now what.now) (printing O.Sink page.old out.old)
+        (printing O.Sink page.new out.new) }
 {
     page.push(b" ", out);
     push_escaped(page, line.name.bytes(), out);
@@ -186,7 +194,8 @@ fn push_table<O: Sink>(page: &mut Page, line: &DefsLine, what: &[u8], out: &mut 
 
 // Adds a table that its station has under another signature.
 fn push_redefined<O: Sink>(page: &mut Page, line: &DefsLine, old: u16, out: &mut O)
-    ensures { Adds (redefined_text line.now old) (printing O.Sink page.old out.old) (printing O.Sink page.new out.new) }
+    ensures { Adds (redefined_text line.now old) (printing O.Sink page.old out.old)
+        (printing O.Sink page.new out.new) }
 {
     push_table(page, line, b" redefined ", out);
     push_hex(page, &old.to_be_bytes(), out);
@@ -195,7 +204,8 @@ fn push_redefined<O: Sink>(page: &mut Page, line: &DefsLine, old: u16, out: &mut
 
 // Adds why a station's file didn't come.
 fn push_failed<O: Sink>(page: &mut Page, cause: Cause, out: &mut O)
-    ensures { Adds (failed_text cause) (printing O.Sink page.old out.old) (printing O.Sink page.new out.new) }
+    ensures { Adds (failed_text cause) (printing O.Sink page.old out.old)
+        (printing O.Sink page.new out.new) }
 {
     page.push(b" - ", out);
     push_cause(page, cause, out);
@@ -204,7 +214,8 @@ fn push_failed<O: Sink>(page: &mut Page, cause: Cause, out: &mut O)
 
 #[tactic(auto, unfolding(crate::specs::Defs::cause_text))]
 fn push_cause<O: Sink>(page: &mut Page, cause: Cause, out: &mut O)
-    ensures { Adds (cause_text cause) (printing O.Sink page.old out.old) (printing O.Sink page.new out.new) }
+    ensures { Adds (cause_text cause) (printing O.Sink page.old out.old)
+        (printing O.Sink page.new out.new) }
 {
     match cause {
         Cause::NoAnswer => page.push(b"no answer", out),

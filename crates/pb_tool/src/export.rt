@@ -24,7 +24,8 @@ use std::alloc::Global;
 /// Opens the archive, and writes the rows that are asked for, cut to the front of their table.
 pub fn print<S: Site, O: Sink>(alloc: Global, asked: Asked, site: &mut S, out: &mut O) -> Status
     requires { IsAllowed (Export (asked_by asked)) }
-    ensures ran { RanExport (asked_by asked.entry) result (talk S.Disk O.Sink site.old out.old) (talk S.Disk O.Sink site.new out.new) }
+    ensures ran { RanExport (asked_by asked.entry) result (talk S.Disk O.Sink site.old out.old)
+        (talk S.Disk O.Sink site.new out.new) }
     ensures leaves { Leaves Keeps (S.view site.old) (S.view site.new) }
     ensures link { (S.view site.new).link ≡ (S.view site.old).link }
     ensures disk { Counts Status.DiskFault result (S.view site.old).faults (S.view site.new).faults }

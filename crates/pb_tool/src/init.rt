@@ -54,10 +54,12 @@ pub fn print<S: Site, I: Source, O: Sink>(
 
 // Reads the plan, and makes the archive.
 fn make<S: Site, I: Source>(alloc: Global, site: &mut S, input: &mut I) -> Result<(), InitFault>
-    ensures means { Means result (S.view site.old).file (S.view site.new).file (I.left input.old) (I.left input.new) }
+    ensures means { Means result (S.view site.old).file (S.view site.new).file (I.left input.old)
+        (I.left input.new) }
     ensures leaves { MayLeaveBy (I.left input.old) (I.left input.new) (S.view site.old) (S.view site.new) }
     ensures link { (S.view site.new).link ≡ (S.view site.old).link }
-    ensures counts { CountsOf result (I.read_faults input.old) (I.read_faults input.new) (S.view site.old).faults
+    ensures counts { CountsOf result (I.read_faults input.old) (I.read_faults input.new)
+        (S.view site.old).faults
         (S.view site.new).faults }
 {
     let text = match read_whole(alloc, input, PLAN_TEXT_MAX) {
@@ -97,7 +99,8 @@ fn status_of_fault(fault: InitFault) -> Status
 
 #[tactic(auto, unfolding(crate::specs::Init::answer_text))]
 fn push_answer<O: Sink>(page: &mut Page, answer: &Result<(), InitFault>, out: &mut O)
-    ensures { Adds (answer_text answer.now) (printing O.Sink page.old out.old) (printing O.Sink page.new out.new) }
+    ensures { Adds (answer_text answer.now) (printing O.Sink page.old out.old)
+        (printing O.Sink page.new out.new) }
 {
     match answer {
         Ok(()) => {}
@@ -107,7 +110,8 @@ fn push_answer<O: Sink>(page: &mut Page, answer: &Result<(), InitFault>, out: &m
 
 #[tactic(auto, unfolding(crate::specs::Init::fault_text))]
 fn push_fault<O: Sink>(page: &mut Page, fault: InitFault, out: &mut O)
-    ensures { Adds (fault_text fault) (printing O.Sink page.old out.old) (printing O.Sink page.new out.new) }
+    ensures { Adds (fault_text fault) (printing O.Sink page.old out.old)
+        (printing O.Sink page.new out.new) }
 {
     match fault {
         InitFault::Input(fault) => push_input_fault(page, fault, PLAN_TEXT_MAX, out),

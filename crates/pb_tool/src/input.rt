@@ -27,7 +27,8 @@ pub fn read_whole<I: Source>(
     input: &mut I,
     limit: usize,
 ) -> Result<Vec<u8>, InputFault>
-    ensures whole { IfOk result (λ bytes. ReadsWhole limit (I.left input.old) (I.left input.new) bytes.items) }
+    ensures whole { IfOk result (λ bytes. ReadsWhole limit (I.left input.old) (I.left input.new)
+        bytes.items) }
     ensures refused { IfErr result (InputRefuses limit (I.left input.old) (I.left input.new)) }
     ensures reads { CountsReads result (I.read_faults input.old) (I.read_faults input.new) }
 {
@@ -65,7 +66,8 @@ pub fn status_of_input(fault: InputFault) -> Status
 /// Adds the closing line of an input that wasn't read whole, where this many bytes are allowed.
 #[tactic(auto, unfolding(crate::specs::Input::input_fault_text))]
 pub fn push_input_fault<O: Sink>(page: &mut Page, fault: InputFault, limit: usize, out: &mut O)
-    ensures { Adds (input_fault_text limit fault) (printing O.Sink page.old out.old) (printing O.Sink page.new out.new) }
+    ensures { Adds (input_fault_text limit fault) (printing O.Sink page.old out.old)
+        (printing O.Sink page.new out.new) }
 {
     match fault {
         InputFault::ReadFault => page.push(b"pakbus: read fault\n", out),
@@ -76,7 +78,8 @@ pub fn push_input_fault<O: Sink>(page: &mut Page, fault: InputFault, limit: usiz
 
 // Adds the closing line of an input past its limit.
 fn push_limit<O: Sink>(page: &mut Page, limit: usize, out: &mut O)
-    ensures { Adds (byte_text limit) (printing O.Sink page.old out.old) (printing O.Sink page.new out.new) }
+    ensures { Adds (byte_text limit) (printing O.Sink page.old out.old)
+        (printing O.Sink page.new out.new) }
 {
     page.put(
         &[

@@ -28,7 +28,8 @@ pub fn status_of_refusal(fault: ArchiveFault) -> Status
 
 /// Writes the closing line of a refusal, and answers its status, or that the write failed.
 pub fn refuse<O: Sink>(fault: ArchiveFault, out: &mut O) -> Status
-    ensures closed { Closes (refusal_status fault) result (refusal_text fault) (O.written out.old) (O.written out.new) }
+    ensures closed { Closes (refusal_status fault) result (refusal_text fault) (O.written out.old)
+        (O.written out.new) }
     ensures writes { Counts Status.WriteFault result (O.write_faults out.old) (O.write_faults out.new) }
 {
     let mut page = Page::new();
@@ -39,7 +40,8 @@ pub fn refuse<O: Sink>(fault: ArchiveFault, out: &mut O) -> Status
 /// Adds the closing line of a refusal; want of memory has none.
 #[tactic(auto, unfolding(crate::specs::Refusal::refusal_text))]
 pub fn push_refused<O: Sink>(page: &mut Page, fault: ArchiveFault, out: &mut O)
-    ensures { Adds (refusal_text fault) (printing O.Sink page.old out.old) (printing O.Sink page.new out.new) }
+    ensures { Adds (refusal_text fault) (printing O.Sink page.old out.old)
+        (printing O.Sink page.new out.new) }
 {
     match fault {
         ArchiveFault::NotCreated => page.push(b"pakbus: no archive\n", out),

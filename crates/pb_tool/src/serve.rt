@@ -41,7 +41,8 @@ pub fn print<S: Site, I: Source, O: Sink>(
     ensures disk { ReadsOnly (S.view site.old) (S.view site.new) }
     ensures disk_faults { (S.view site.new).faults ≡ (S.view site.old).faults }
     ensures reads { Counts Status.ReadFault result (I.read_faults input.old) (I.read_faults input.new) }
-    ensures links { Counts Status.LinkFault result (S.view site.old).link.faults (S.view site.new).link.faults }
+    ensures links { Counts Status.LinkFault result (S.view site.old).link.faults
+        (S.view site.new).link.faults }
     ensures writes { Counts Status.WriteFault result (O.write_faults out.old) (O.write_faults out.new) }
     ensures disk_fault { result ≢ Status.DiskFault }
 {
@@ -58,7 +59,8 @@ fn serve<S: Site, I: Source>(
     site: &mut S,
     input: &mut I,
 ) -> Result<End, ServeFault>
-    ensures means { Means result goal (I.left input.old) (I.left input.new) (S.view site.old).link (S.view site.new).link }
+    ensures means { Means result goal (I.left input.old) (I.left input.new) (S.view site.old).link
+        (S.view site.new).link }
     ensures talks { Talks (S.view site.old) (S.view site.new) }
     ensures counts { CountsOf result (I.read_faults input.old) (I.read_faults input.new)
         (S.view site.old).link.faults (S.view site.new).link.faults }
@@ -112,7 +114,8 @@ fn status_of_fault(fault: ServeFault) -> Status
 
 #[tactic(auto, unfolding(crate::specs::Serve::answer_text))]
 fn push_answer<O: Sink>(page: &mut Page, answer: &Result<End, ServeFault>, out: &mut O)
-    ensures { Adds (answer_text answer.now) (printing O.Sink page.old out.old) (printing O.Sink page.new out.new) }
+    ensures { Adds (answer_text answer.now) (printing O.Sink page.old out.old)
+        (printing O.Sink page.new out.new) }
 {
     match answer {
         Ok(end) => push_end(page, *end, out),
@@ -134,7 +137,8 @@ fn push_end<O: Sink>(page: &mut Page, end: End, out: &mut O)
 
 #[tactic(auto, unfolding(crate::specs::Serve::fault_text))]
 fn push_fault<O: Sink>(page: &mut Page, fault: ServeFault, out: &mut O)
-    ensures { Adds (fault_text fault) (printing O.Sink page.old out.old) (printing O.Sink page.new out.new) }
+    ensures { Adds (fault_text fault) (printing O.Sink page.old out.old)
+        (printing O.Sink page.new out.new) }
 {
     match fault {
         ServeFault::Input(fault) => push_input_fault(page, fault, SCRIPT_TEXT_MAX, out),

@@ -34,7 +34,8 @@ fn push_digits<O: Sink>(page: &mut Page, bytes: &[u8], out: &mut O)
 
 /// Adds a name, escaped.
 pub fn push_escaped<O: Sink>(page: &mut Page, name: &[u8], out: &mut O)
-    ensures { Adds (name_text name.now) (printing O.Sink page.old out.old) (printing O.Sink page.new out.new) }
+    ensures { Adds (name_text name.now) (printing O.Sink page.old out.old)
+        (printing O.Sink page.new out.new) }
 {
     let mut left = name;
     while !left.is_empty() {
@@ -46,7 +47,8 @@ pub fn push_escaped<O: Sink>(page: &mut Page, name: &[u8], out: &mut O)
 
 fn push_characters<O: Sink>(page: &mut Page, name: &[u8], out: &mut O)
     requires { length name.now ≤ STEP }
-    ensures { Adds (name_text name.now) (printing O.Sink page.old out.old) (printing O.Sink page.new out.new) }
+    ensures { Adds (name_text name.now) (printing O.Sink page.old out.old)
+        (printing O.Sink page.new out.new) }
 {
     let mut characters = [0; ESCAPED_MAX * STEP];
     let len = escape_into(name, &mut characters).unwrap();

@@ -75,7 +75,8 @@ impl Exchange {
     /// Counts a quiet tick. `Resend` counts as a sending.
     pub fn quiet(&mut self) -> Step
         ensures ticks { Ticks self.old result self.new }
-        ensures stands { (inputs : List Input) → StandsFor self.old inputs → StandsFor self.new (inputs ++ Tick ∷ []) }
+        ensures stands { (inputs : List Input) → StandsFor self.old inputs
+            → StandsFor self.new (inputs ++ Tick ∷ []) }
     {
         self.tick()
     }
@@ -102,7 +103,8 @@ impl Exchange {
     pub fn bytes(&mut self, n: usize) -> Step
         ensures counts { Counts self.new.heard result }
         ensures counted { self.new ≡ record self.old { heard = min (self.old.heard + n) usize.MAX } }
-        ensures stands { (inputs : List Input) → StandsFor self.old inputs → StandsFor self.new (inputs ++ Bytes n ∷ []) }
+        ensures stands { (inputs : List Input) → StandsFor self.old inputs
+            → StandsFor self.new (inputs ++ Bytes n ∷ []) }
     {
         self.count(n);
         if self.heard >= FLOOD {

@@ -82,7 +82,8 @@ fn begins_with(bytes: &[u8], first: u8, second: u8) -> bool
 
 /// The seconds that the station asks to wait for the request.
 pub(crate) fn seconds_to_wait(asked: &Asked, header: &Header, message: &[u8]) -> Option<u16>
-    ensures { MatchOption result ((seconds : ℕ) → IsPleaseWait asked.now seconds header.now message.now → ⊥)
+    ensures { MatchOption result ((seconds : ℕ)
+        → IsPleaseWait asked.now seconds header.now message.now → ⊥)
         (λ seconds. IsPleaseWait asked.now seconds header.now message.now) }
 {
     if asked.proto != PROTO_BMP5 || header.proto != PROTO_BMP5 {

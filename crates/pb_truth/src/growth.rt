@@ -13,7 +13,8 @@ ghost use Rattle.pb_truth.specs.Learning.{Known, SoundKnown};
 /// stations store, overwrite and define, whatever is heard, and whatever streams begin.
 pub fn archives_outlive_events()
     ensures sound { (w more : World) (a : Archive) → Sound a (history w) → Sound a (history (w ++ more)) }
-    ensures good { (w more : World) (image : List ℕ) → Good w image → AsksNothing more → Good (w ++ more) image }
+    ensures good { (w more : World) (image : List ℕ) → Good w image → AsksNothing more
+        → Good (w ++ more) image }
     ensures silent { (more : World) → sent more ≡ [] → AsksNothing more }
 {}
 

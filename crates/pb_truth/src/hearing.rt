@@ -19,8 +19,10 @@ pub fn good_pieces_end_streams()
         → (prefix rest : List ℕ) × (stream ≡ prefix ++ rest) × EndsGoodPiece prefix content }
     ensures later { (earlier stream content : List ℕ) → EndsGoodPiece stream content
         → EndsGoodPiece (earlier ++ stream) content }
-    ensures has { (content : List ℕ) → IsContentSize (length content) → HasContent (frame content) content }
-    ensures written { (content : List ℕ) → IsContentSize (length content) → EndsGoodPiece (frame content) content }
+    ensures has { (content : List ℕ) → IsContentSize (length content)
+        → HasContent (frame content) content }
+    ensures written { (content : List ℕ) → IsContentSize (length content)
+        → EndsGoodPiece (frame content) content }
 {
     law_quoted();
     law_nullifier();
@@ -32,7 +34,8 @@ pub fn good_pieces_end_streams()
 /// A collect reply to an own address that was heard in an honest world is an answer: at an earlier moment it was a true reply
 /// to a request that had been sent.
 pub fn heard_replies_are_answers()
-    ensures { (w : World) (a : Archive) (m : Delivered) → Honest w a → WasHeard w m → IsCollectReply m → IsOwn a m.dst
+    ensures { (w : World) (a : Archive) (m : Delivered) → Honest w a → WasHeard w m → IsCollectReply m
+        → IsOwn a m.dst
         → (earlier later : World) × (w ≡ earlier ++ later) × IsAnswer earlier m }
 {
     good_pieces_end_streams();
@@ -45,7 +48,8 @@ pub fn heard_replies_teach_the_truth()
         → Honest w a → AskedBelow w a → HasOneEach a
         → slice_get a.tables id ≡ Some k.table → SoundKnown k (history w k.table.key)
         → WasHeard w m → RepliesFor k.table m reply → FitsKnown k reply.fragments
-        → SoundKnown (learned (record_layout k.table.definition) k reply.fragments) (history w k.table.key) }
+        → SoundKnown (learned (record_layout k.table.definition) k reply.fragments)
+        (history w k.table.key) }
 {
     good_pieces_end_streams();
 }

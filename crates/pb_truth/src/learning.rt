@@ -19,13 +19,17 @@ ghost use Rattle.pb_truth.specs.Learning.{Known, without_partial, SoundKnown, Fi
 /// known of the table true, where it fits what is asked next: however late it comes, and to whichever such request. The
 /// premise on layouts says that the table has one layout under its signature.
 pub fn true_answers_teach_the_truth()
-    ensures { (k : Known) (r : Request) (m : Delivered) (histories : TableKey → History) (reply : SeenReply)
+    ensures { (k : Known) (r : Request) (m : Delivered) (histories : TableKey → History)
+        (reply : SeenReply)
         → SoundKnown k (histories k.table.key) → TrueReply r m histories → r.table ≡ k.table.key
-        → ((d : TableDefinition) → Contains (histories k.table.key).definitions d → d.layout ≡ record_layout k.table.definition)
+        → ((d : TableDefinition) → Contains (histories k.table.key).definitions d
+        → d.layout ≡ record_layout k.table.definition)
         → AsksFromAtMost (front k.table) r.mode
-        → CollectReads k.table.key.number (record_layout k.table.definition) reply m.message → reply.resp ≡ 0
+        → CollectReads k.table.key.number (record_layout k.table.definition) reply m.message
+        → reply.resp ≡ 0
         → FitsKnown k reply.fragments
-        → SoundKnown (learned (record_layout k.table.definition) k reply.fragments) (histories k.table.key) }
+        → SoundKnown (learned (record_layout k.table.definition) k reply.fragments)
+        (histories k.table.key) }
 {}
 
 /// An answer only adds rows, fragment by fragment, and a table that is true with more rows is true with fewer. So while an
@@ -43,7 +47,8 @@ pub fn fewer_rows_are_true()
 pub fn advances_keep_what_is_learned()
     ensures keep { (layout : Layout) (k : Known) (f : SeenFragment) → CanBeKept layout k.table f
         → table_after layout k.table (advances layout k f) ≡ (taken layout k f).table }
-    ensures add { (layout : Layout) (t : Table) (some : List Advance) → IsFront t.rows (table_after layout t some).rows }
+    ensures add { (layout : Layout) (t : Table) (some : List Advance)
+        → IsFront t.rows (table_after layout t some).rows }
     ensures further { (layout : Layout) (t : Table) (some more : List Advance)
         → table_after layout t (some ++ more) ≡ table_after layout (table_after layout t some) more }
     ensures first { (layout : Layout) (k : Known) (f : SeenFragment) (fs : List SeenFragment)
@@ -55,6 +60,7 @@ pub fn advances_keep_what_is_learned()
 /// The fragments of an answer that fits can be kept, one after the other: none begins below the front.
 pub fn fragments_that_fit_can_be_kept()
     ensures { (layout : Layout) (k : Known) (table : ℕ) (reply : SeenReply) (message : List ℕ)
-        → CollectReads table layout reply message → IsBytes message → reply.resp ≡ 0 → FitsKnown k reply.fragments
+        → CollectReads table layout reply message → IsBytes message → reply.resp ≡ 0
+        → FitsKnown k reply.fragments
         → CanAllBeKept layout k reply.fragments }
 {}

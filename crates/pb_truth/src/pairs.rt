@@ -24,7 +24,8 @@ pub fn archives_have_each_table_once()
 
 /// An allowed change keeps an archive true where the rows that it adds are true, and what was asked stays below the fronts.
 pub fn changes_keep_archives_true()
-    ensures sound { (w : World) (a : Archive) (change : Change) → Sound a (history w) → StaysTrue w a change
+    ensures sound { (w : World) (a : Archive) (change : Change) → Sound a (history w)
+        → StaysTrue w a change
         → Sound (archive_after a change) (history w) }
     ensures asked { (w : World) (a : Archive) (change : Change) → AskedBelow w a → IsAllowed a change
         → AskedBelow w (archive_after a change) }
@@ -36,7 +37,8 @@ pub fn changes_keep_archives_true()
 pub fn created_archives_are_good()
     ensures good { (w : World) (image : List ℕ) (plan : Plan) → HasArchive image (created plan)
         → ((r : Request) → WasAsked w r → r.me ≡ plan.me → ⊥) → Good w image }
-    ensures only { (w : World) (image : List ℕ) (plan : Plan) (r : Request) → HasArchive image (created plan)
+    ensures only { (w : World) (image : List ℕ) (plan : Plan) (r : Request)
+        → HasArchive image (created plan)
         → WasAsked w r → r.me ≡ plan.me → Good w image → ⊥ }
 {
     entries_are_one();
@@ -53,7 +55,8 @@ pub fn images_stay_good()
         → ((a : Archive) (r : Request) → HasArchive image a → WasAsked more r → IsOwn a r.me → Allows a r)
         → Good (w ++ more) image }
     ensures changed { (w : World) (old new : List ℕ) (change : Change) → Good w old
-        → ((a : Archive) → HasArchive old a → StaysTrue w a change) → KeepsOrMakes change old new → Good w new }
+        → ((a : Archive) → HasArchive old a → StaysTrue w a change) → KeepsOrMakes change old new
+        → Good w new }
 {
     entries_are_one();
     entries_are_one_archive();
@@ -63,11 +66,13 @@ pub fn images_stay_good()
 /// Each pair that a crash leaves stays good from call to call: while nothing is asked but what the images allow, and in a call
 /// that makes a change which keeps their archives true, failed or not.
 pub fn pairs_stay_good<S: Site>()
-    ensures start { (now : S) → IsLawful (S.view now) → AreGood (S.view now) → AreGoodSince (S.view now) (S.view now) }
+    ensures start { (now : S) → IsLawful (S.view now) → AreGood (S.view now)
+        → AreGoodSince (S.view now) (S.view now) }
     ensures further { (a b c : S) → AreGoodSince (S.view a) (S.view b) → AreGoodSince (S.view b) (S.view c)
         → AreGoodSince (S.view a) (S.view c) }
     ensures asks { (old new : S) → IsLawful (S.view new) → AreGood (S.view old)
-        → LeavesOnly (S.view old) (S.view new) (AsksAllowed (S.view old)) → AreGoodSince (S.view old) (S.view new) }
+        → LeavesOnly (S.view old) (S.view new) (AsksAllowed (S.view old))
+        → AreGoodSince (S.view old) (S.view new) }
     ensures writes { (change : Change) (old new : S) → IsLawful (S.view new) → AreGood (S.view old)
         → StaysTrueIn (S.view old) change → Writes change (S.view old) (S.view new)
         → AreGoodSince (S.view old) (S.view new) }
@@ -81,7 +86,8 @@ pub fn pairs_stay_good<S: Site>()
 /// which the next one begins, over the file that one of these pairs has, in its world, with any events behind it in which
 /// nothing was asked.
 pub fn sessions_follow_one_another<S: Site>()
-    ensures { (entry last next : S) (w more : World) (image : List ℕ) → AreGoodSince (S.view entry) (S.view last)
+    ensures { (entry last next : S) (w more : World) (image : List ℕ)
+        → AreGoodSince (S.view entry) (S.view last)
         → (S.view last).may_leave (S.view entry).moment w image → AsksNothing more
         → (S.view next).link.world ≡ Some (w ++ more) → ((c : List ℕ) → (S.view next).image c → c ≡ image)
         → AreGood (S.view next) }

@@ -18,7 +18,12 @@ use crate::asking::written_frames_ask_once;
 // rest of record 3. And a part that begins above the front leaves gaps before it.
 fn an_answer_is_learned()
     ensures { (t : Table)
-        → let layout : Layout = record { record_len = 2; event = true; interval = record { sec = pos 0; nano = pos 0 } } in
+        → let layout : Layout = record {
+          record_len = 2;
+          event = true;
+          interval = record
+              { sec = pos 0; nano = pos 0 };
+        } in
         let empty : Known = without_partial (record t { rows = [] }) in
         let second = 0 ∷ 0 ∷ 0 ∷ 7 ∷ 0 ∷ 0 ∷ 0 ∷ 9 ∷ 0xAA ∷ 0xBB ∷ [] in
         let begun = 0 ∷ 0 ∷ 0 ∷ 8 ∷ [] in
@@ -34,11 +39,13 @@ fn an_answer_is_learned()
 
 // What fits a request for records from 2 on, and one for the rest of record 2 from its ninth byte on.
 fn answers_fit()
-    ensures from { (bytes : List ℕ) → BeginsFrom 2 (whole 3 1 bytes ∷ []) × BeginsFrom 2 (whole 0 0 [] ∷ [])
+    ensures from { (bytes : List ℕ) → BeginsFrom 2 (whole 3 1 bytes ∷ [])
+        × BeginsFrom 2 (whole 0 0 [] ∷ [])
         × BeginsFrom 2 (part 2 0 bytes ∷ []) × BeginsFrom 2 [] }
     ensures not_from { (bytes : List ℕ)
         → (BeginsFrom 2 (whole 1 2 bytes ∷ []) → ⊥) × (BeginsFrom 2 (part 2 8 bytes ∷ []) → ⊥) }
-    ensures rest { (bytes : List ℕ) → BeginsWithPart 2 8 (part 2 8 bytes ∷ []) × BeginsWithPart 2 8 (whole 9 0 [] ∷ []) }
+    ensures rest { (bytes : List ℕ) → BeginsWithPart 2 8 (part 2 8 bytes ∷ [])
+        × BeginsWithPart 2 8 (whole 9 0 [] ∷ []) }
     ensures not_rest { (bytes : List ℕ)
         → (BeginsWithPart 2 8 (part 2 0 bytes ∷ []) → ⊥) × (BeginsWithPart 2 8 (part 3 8 bytes ∷ []) → ⊥)
         × (BeginsWithPart 2 8 (whole 2 1 bytes ∷ []) → ⊥) }

@@ -18,7 +18,9 @@ pub fn pieces_of_texts_compose()
 pub fn known_times_have_their_texts()
     ensures begin { year_start 90 ≡ 32872 }
     ensures zero { time_text (record { sec = pos 0; nano = pos 0 }) ≡ codes "1990-01-01 00:00:00" }
-    ensures before { time_text (record { sec = negsuc 0; nano = pos 500000000 }) ≡ codes "1989-12-31 23:59:59.500000000" }
-    ensures leap_day { time_text (record { sec = pos 320675405; nano = pos 0 }) ≡ codes "2000-02-29 12:30:05" }
+    ensures before { time_text (record { sec = negsuc 0; nano = pos 500000000 })
+        ≡ codes "1989-12-31 23:59:59.500000000" }
+    ensures leap_day { time_text (record { sec = pos 320675405; nano = pos 0 })
+        ≡ codes "2000-02-29 12:30:05" }
     ensures wild { time_text (record { sec = pos 0; nano = negsuc 0 }) ≡ codes "00000000FFFFFFFF" }
 {}

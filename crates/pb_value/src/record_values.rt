@@ -93,7 +93,8 @@ impl<'t, 'a> Iterator for ValuesOf<'t, 'a> {
 
 /// The run where it has values left, else the next one; and the number of the field after it.
 fn run_left(table: &Table, run: Run, at: usize) -> Option<(Run, usize)>
-    ensures found { IfSome result (λ x. shapes_left run at table.now.fields ≡ shapes_left x.0 x.1 table.now.fields) }
+    ensures found { IfSome result (λ x. shapes_left run at table.now.fields
+        ≡ shapes_left x.0 x.1 table.now.fields) }
     ensures some { IfSome result (λ x. 0 < x.0.count) }
     ensures none { IfNone result (shapes_left run at table.now.fields ≡ []) }
 {
@@ -105,7 +106,8 @@ fn run_left(table: &Table, run: Run, at: usize) -> Option<(Run, usize)>
 
 /// The values of the next field that has any, from the field of this number on; and the number after it.
 fn next_run(table: &Table, from: usize) -> Option<(Run, usize)>
-    ensures found { IfSome result (λ x. shapes (drop from table.now.fields) ≡ shapes_left x.0 x.1 table.now.fields) }
+    ensures found { IfSome result (λ x. shapes (drop from table.now.fields)
+        ≡ shapes_left x.0 x.1 table.now.fields) }
     ensures some { IfSome result (λ x. 0 < x.0.count) }
     ensures none { IfNone result (shapes (drop from table.now.fields) ≡ []) }
 {

@@ -34,8 +34,10 @@ pub struct Value<'a> {
 /// nothing is written. A long ASCII value may be written in pieces.
 pub fn text_into(value: &Value, out: &mut [u8]) -> Result<usize, Full>
     requires { IsValue value.now.kind value.now.bytes.now }
-    ensures written { IfOk result (IsWritten (value_text value.now.kind value.now.bytes.now) out.old out.new) }
-    ensures full { OnErr result (DoesNotFit (value_text value.now.kind value.now.bytes.now) out.old out.new) }
+    ensures written { IfOk result (IsWritten (value_text value.now.kind value.now.bytes.now) out.old
+        out.new) }
+    ensures full { OnErr result (DoesNotFit (value_text value.now.kind value.now.bytes.now) out.old
+        out.new) }
     ensures short { let v = value.now in
         (v.kind ≢ ascii) → length (value_text v.kind v.bytes.now) ≤ VALUE_TEXT_MAX }
     ensures ascii { let v = value.now in

@@ -23,9 +23,11 @@ const LIMITS: Limits = Limits {
 /// memory.
 pub fn ping<S: Site>(site: &mut S, me: NodeId, node: NodeId) -> Result<Pinged, PingFault>
     ensures pings { Pinging me node (S.view site.old).link (S.view site.new).link result }
-    ensures link_fault { result ≡ Err PingFault.LinkFault → Rose (S.view site.old).link.faults (S.view site.new).link.faults }
+    ensures link_fault { result ≡ Err PingFault.LinkFault
+        → Rose (S.view site.old).link.faults (S.view site.new).link.faults }
     ensures later { (S.view site.old).link.faults ≤ (S.view site.new).link.faults }
-    ensures link_reported { (S.view site.old).link.faults < (S.view site.new).link.faults → result ≡ Err PingFault.LinkFault }
+    ensures link_reported { (S.view site.old).link.faults < (S.view site.new).link.faults
+        → result ≡ Err PingFault.LinkFault }
     ensures leaves { LeavesOnly (S.view site.old) (S.view site.new) (Greets me node (S.view site.old)) }
     ensures disk { ReadsOnly (S.view site.old) (S.view site.new) }
     ensures disk_faults { (S.view site.new).faults ≡ (S.view site.old).faults }

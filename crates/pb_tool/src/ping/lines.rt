@@ -19,8 +19,10 @@ use pb_value::{TIME_TEXT_MAX, time_into};
 
 /// Pings a node, and prints what it answered.
 pub fn print<S: Site, O: Sink>(me: NodeId, node: NodeId, site: &mut S, out: &mut O) -> Status
-    ensures ran { RanPing me node result (talk S.Disk O.Sink site.old out.old) (talk S.Disk O.Sink site.new out.new) }
-    ensures links { Counts Status.LinkFault result (S.view site.old).link.faults (S.view site.new).link.faults }
+    ensures ran { RanPing me node result (talk S.Disk O.Sink site.old out.old)
+        (talk S.Disk O.Sink site.new out.new) }
+    ensures links { Counts Status.LinkFault result (S.view site.old).link.faults
+        (S.view site.new).link.faults }
     ensures writes { Counts Status.WriteFault result (O.write_faults out.old) (O.write_faults out.new) }
     ensures read_fault { result ≢ Status.ReadFault }
     ensures disk_fault { result ≢ Status.DiskFault }
@@ -47,7 +49,8 @@ fn status_of(answer: &Result<Pinged, PingFault>) -> Status
 
 #[tactic(auto, unfolding(crate::specs::PingText::ping_text))]
 fn push_answer<O: Sink>(page: &mut Page, node: u16, answer: &Result<Pinged, PingFault>, out: &mut O)
-    ensures { Adds (ping_text node answer.now) (printing O.Sink page.old out.old) (printing O.Sink page.new out.new) }
+    ensures { Adds (ping_text node answer.now) (printing O.Sink page.old out.old)
+        (printing O.Sink page.new out.new) }
 {
     match *answer {
         Ok(pinged) => {
@@ -60,7 +63,8 @@ fn push_answer<O: Sink>(page: &mut Page, node: u16, answer: &Result<Pinged, Ping
 
 #[tactic(auto, unfolding(crate::specs::PingText::fault_text))]
 fn push_fault<O: Sink>(page: &mut Page, node: u16, fault: PingFault, out: &mut O)
-    ensures { Adds (fault_text node fault) (printing O.Sink page.old out.old) (printing O.Sink page.new out.new) }
+    ensures { Adds (fault_text node fault) (printing O.Sink page.old out.old)
+        (printing O.Sink page.new out.new) }
 {
     match fault {
         PingFault::LinkFault => page.push(b"pakbus: link fault\n", out),
@@ -74,7 +78,8 @@ fn push_fault<O: Sink>(page: &mut Page, node: u16, fault: PingFault, out: &mut O
 
 #[tactic(auto, unfolding(crate::specs::PingText::hello_text))]
 fn push_hello<O: Sink>(page: &mut Page, node: u16, router: u8, metric: u8, verify: u16, out: &mut O)
-    ensures { Adds (hello_text node router metric verify) (printing O.Sink page.old out.old) (printing O.Sink page.new out.new) }
+    ensures { Adds (hello_text node router metric verify) (printing O.Sink page.old out.old)
+        (printing O.Sink page.new out.new) }
 {
     page.put(
         &[
@@ -93,7 +98,8 @@ fn push_hello<O: Sink>(page: &mut Page, node: u16, router: u8, metric: u8, verif
 }
 
 fn push_clock<O: Sink>(page: &mut Page, node: u16, time: Nsec, out: &mut O)
-    ensures { Adds (clock_text node time) (printing O.Sink page.old out.old) (printing O.Sink page.new out.new) }
+    ensures { Adds (clock_text node time) (printing O.Sink page.old out.old)
+        (printing O.Sink page.new out.new) }
 {
     page.put(
         &[
@@ -116,7 +122,8 @@ fn push_time<O: Sink>(page: &mut Page, time: Nsec, out: &mut O)
 }
 
 fn push_no_hello<O: Sink>(page: &mut Page, node: u16, cause: Cause, out: &mut O)
-    ensures { Adds (no_hello_text node cause) (printing O.Sink page.old out.old) (printing O.Sink page.new out.new) }
+    ensures { Adds (no_hello_text node cause) (printing O.Sink page.old out.old)
+        (printing O.Sink page.new out.new) }
 {
     page.put(
         &[
@@ -131,7 +138,8 @@ fn push_no_hello<O: Sink>(page: &mut Page, node: u16, cause: Cause, out: &mut O)
 }
 
 fn push_no_clock<O: Sink>(page: &mut Page, node: u16, cause: Cause, out: &mut O)
-    ensures { Adds (no_clock_text node cause) (printing O.Sink page.old out.old) (printing O.Sink page.new out.new) }
+    ensures { Adds (no_clock_text node cause) (printing O.Sink page.old out.old)
+        (printing O.Sink page.new out.new) }
 {
     page.put(
         &[
@@ -147,7 +155,8 @@ fn push_no_clock<O: Sink>(page: &mut Page, node: u16, cause: Cause, out: &mut O)
 
 #[tactic(auto, unfolding(crate::specs::PingText::cause_text))]
 fn push_cause<O: Sink>(page: &mut Page, cause: Cause, out: &mut O)
-    ensures { Adds (cause_text cause) (printing O.Sink page.old out.old) (printing O.Sink page.new out.new) }
+    ensures { Adds (cause_text cause) (printing O.Sink page.old out.old)
+        (printing O.Sink page.new out.new) }
 {
     match cause {
         Cause::NoAnswer => page.push(b"no answer", out),

@@ -102,7 +102,8 @@ impl Question for ClockOf {
 }
 
 fn hello_reply(message: &[u8]) -> Option<Greeting>
-    ensures { MatchOption result ((g : Greeting) → IsGreeting g message.now → ⊥) (λ g. IsGreeting g message.now) }
+    ensures { MatchOption result ((g : Greeting) → IsGreeting g message.now → ⊥)
+        (λ g. IsGreeting g message.now) }
 {
     match pb_ctrl::read(message) {
         Ok(
@@ -129,7 +130,8 @@ fn hello_reply(message: &[u8]) -> Option<Greeting>
 }
 
 fn clock_reply(message: &[u8]) -> Option<Reading>
-    ensures { MatchOption result ((r : Reading) → IsReading r message.now → ⊥) (λ r. IsReading r message.now) }
+    ensures { MatchOption result ((r : Reading) → IsReading r message.now → ⊥)
+        (λ r. IsReading r message.now) }
 {
     match pb_bmp5::read(message) {
         Ok(Bmp5::ClockReply { tran, resp, time }) => {

@@ -15,7 +15,8 @@ use pb_io::{Page, Sink};
 /// Adds a BMP5 message; whether it is malformed.
 #[tactic(auto, unfolding(crate::specs::MessageText::shown_bmp5, crate::specs::MessageText::is_malformed_bmp5))]
 pub fn push_bmp5<O: Sink>(page: &mut Page, message: &[u8], out: &mut O) -> bool
-    ensures text { Adds (shown_bmp5 message.now) (printing O.Sink page.old out.old) (printing O.Sink page.new out.new) }
+    ensures text { Adds (shown_bmp5 message.now) (printing O.Sink page.old out.old)
+        (printing O.Sink page.new out.new) }
     ensures damaged { result ≡ is_malformed_bmp5 message.now }
 {
     match pb_bmp5::read(message) {
@@ -28,7 +29,8 @@ pub fn push_bmp5<O: Sink>(page: &mut Page, message: &[u8], out: &mut O) -> bool
 }
 
 fn push_read<O: Sink>(page: &mut Page, message: Bmp5, out: &mut O)
-    ensures { Adds (bmp5_text (message_of message.entry)) (printing O.Sink page.old out.old) (printing O.Sink page.new out.new) }
+    ensures { Adds (bmp5_text (message_of message.entry)) (printing O.Sink page.old out.old)
+        (printing O.Sink page.new out.new) }
 {
     match message {
         Bmp5::Collect {
@@ -213,7 +215,8 @@ fn push_answer<O: Sink>(page: &mut Page, name: &[u8], head: (u8, u8), keys: &[Ke
 }
 
 fn push_parameters<O: Sink>(page: &mut Page, mode: Mode, out: &mut O)
-    ensures { Adds (keys_text (mode_keys mode)) (printing O.Sink page.old out.old) (printing O.Sink page.new out.new) }
+    ensures { Adds (keys_text (mode_keys mode)) (printing O.Sink page.old out.old)
+        (printing O.Sink page.new out.new) }
 {
     match mode {
         Mode::All => push_keys(page, &[], out),
@@ -230,7 +233,8 @@ fn push_parameters<O: Sink>(page: &mut Page, mode: Mode, out: &mut O)
 }
 
 fn push_times<O: Sink>(page: &mut Page, p1: Nsec, p2: Nsec, out: &mut O)
-    ensures { Adds (keys_text (mode_keys (Times p1 p2))) (printing O.Sink page.old out.old) (printing O.Sink page.new out.new) }
+    ensures { Adds (keys_text (mode_keys (Times p1 p2))) (printing O.Sink page.old out.old)
+        (printing O.Sink page.new out.new) }
 {
     push_keys(
         page,

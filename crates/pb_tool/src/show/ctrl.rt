@@ -12,7 +12,8 @@ use pb_io::{Page, Sink};
 /// Adds a PakCtrl message; whether it is malformed.
 #[tactic(auto, unfolding(crate::specs::MessageText::shown_ctrl, crate::specs::MessageText::is_malformed_ctrl))]
 pub fn push_ctrl<O: Sink>(page: &mut Page, message: &[u8], out: &mut O) -> bool
-    ensures text { Adds (shown_ctrl message.now) (printing O.Sink page.old out.old) (printing O.Sink page.new out.new) }
+    ensures text { Adds (shown_ctrl message.now) (printing O.Sink page.old out.old)
+        (printing O.Sink page.new out.new) }
     ensures damaged { result ≡ is_malformed_ctrl message.now }
 {
     match pb_ctrl::read(message) {
@@ -25,7 +26,8 @@ pub fn push_ctrl<O: Sink>(page: &mut Page, message: &[u8], out: &mut O) -> bool
 }
 
 fn push_read<O: Sink>(page: &mut Page, message: Ctrl, out: &mut O)
-    ensures { Adds (ctrl_text (message_of message.entry)) (printing O.Sink page.old out.old) (printing O.Sink page.new out.new) }
+    ensures { Adds (ctrl_text (message_of message.entry)) (printing O.Sink page.old out.old)
+        (printing O.Sink page.new out.new) }
 {
     match message {
         Ctrl::Hello {
@@ -123,7 +125,8 @@ fn push_read<O: Sink>(page: &mut Page, message: Ctrl, out: &mut O)
 
 // A hello or its reply: router, metric, verify interval.
 fn push_greeting<O: Sink>(page: &mut Page, name: &[u8], tran: u8, keys: (u8, u8, u16), out: &mut O)
-    ensures { Adds (named_text name.now tran (greeting_keys keys.0 keys.1 keys.2)) (printing O.Sink page.old out.old)
+    ensures { Adds (named_text name.now tran (greeting_keys keys.0 keys.1 keys.2))
+        (printing O.Sink page.old out.old)
         (printing O.Sink page.new out.new) }
 {
     push_named(

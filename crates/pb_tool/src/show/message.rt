@@ -34,7 +34,8 @@ pub fn push_named<O: Sink>(page: &mut Page, name: &[u8], tran: u8, keys: &[Key],
 
 /// Adds keys, each after a space.
 pub fn push_keys<O: Sink>(page: &mut Page, keys: &[Key], out: &mut O)
-    ensures { Adds (keys_text (map key_view keys.now)) (printing O.Sink page.old out.old) (printing O.Sink page.new out.new) }
+    ensures { Adds (keys_text (map key_view keys.now)) (printing O.Sink page.old out.old)
+        (printing O.Sink page.new out.new) }
 {
     for key in keys {
         push_key(page, *key, out);
@@ -42,7 +43,8 @@ pub fn push_keys<O: Sink>(page: &mut Page, keys: &[Key], out: &mut O)
 }
 
 fn push_key<O: Sink>(page: &mut Page, key: Key, out: &mut O)
-    ensures { Adds (key_text (key_view key.entry)) (printing O.Sink page.old out.old) (printing O.Sink page.new out.new) }
+    ensures { Adds (key_text (key_view key.entry)) (printing O.Sink page.old out.old)
+        (printing O.Sink page.new out.new) }
 {
     page.put(
         &[Part::Text(b" "), Part::Text(key.0), Part::Text(b" ")],
@@ -59,7 +61,8 @@ pub fn push_refusal<O: Sink>(
     fault: MessageFault,
     out: &mut O,
 ) -> bool
-    ensures text { Adds (refusal_text message.now fault) (printing O.Sink page.old out.old) (printing O.Sink page.new out.new) }
+    ensures text { Adds (refusal_text message.now fault) (printing O.Sink page.old out.old)
+        (printing O.Sink page.new out.new) }
     ensures damaged { result ≡ is_malformation fault }
 {
     match fault {
@@ -78,7 +81,8 @@ pub fn push_refusal<O: Sink>(
 }
 
 fn push_unknown<O: Sink>(page: &mut Page, kind: u8, rest: &[u8], out: &mut O)
-    ensures { Adds (unknown_text kind rest.now) (printing O.Sink page.old out.old) (printing O.Sink page.new out.new) }
+    ensures { Adds (unknown_text kind rest.now) (printing O.Sink page.old out.old)
+        (printing O.Sink page.new out.new) }
 {
     page.push(b"unknown ", out);
     push_hex(page, &[kind], out);
@@ -99,7 +103,8 @@ fn rest_of(message: &[u8]) -> &[u8]
 /// Adds a message of a protocol; whether it is malformed.
 #[tactic(auto, unfolding(crate::specs::MessageText::message_text, crate::specs::MessageText::is_damaged_message))]
 pub fn push_message<O: Sink>(page: &mut Page, proto: u8, message: &[u8], out: &mut O) -> bool
-    ensures text { Adds (message_text proto message.now) (printing O.Sink page.old out.old) (printing O.Sink page.new out.new) }
+    ensures text { Adds (message_text proto message.now) (printing O.Sink page.old out.old)
+        (printing O.Sink page.new out.new) }
     ensures damaged { result ≡ is_damaged_message proto message.now }
 {
     match proto {
@@ -114,7 +119,8 @@ pub fn push_message<O: Sink>(page: &mut Page, proto: u8, message: &[u8], out: &m
 
 // The message of a protocol that isn't known.
 fn push_plain<O: Sink>(page: &mut Page, message: &[u8], out: &mut O)
-    ensures { Adds (joined (codes "bytes " ∷ bytes_text message.now ∷ [])) (printing O.Sink page.old out.old)
+    ensures { Adds (joined (codes "bytes " ∷ bytes_text message.now ∷ []))
+        (printing O.Sink page.old out.old)
         (printing O.Sink page.new out.new) }
 {
     page.push(b"bytes ", out);

@@ -36,7 +36,8 @@ fn push_place<O: Sink>(page: &mut Page, piece: u64, out: &mut O)
 /// Adds the line of a piece without a good body.
 #[tactic(auto, unfolding(crate::specs::ShowText::line, crate::specs::ShowText::outcome_text))]
 pub fn push_bad<O: Sink>(page: &mut Page, piece: u64, at: u64, why: Why, out: &mut O)
-    ensures { Adds (line (record { piece = piece; outcome = Faulty at why })) (printing O.Sink page.old out.old)
+    ensures { Adds (line (record { piece = piece; outcome = Faulty at why }))
+        (printing O.Sink page.old out.old)
         (printing O.Sink page.new out.new) }
 {
     push_place(page, piece, out);
@@ -89,7 +90,8 @@ fn push_content<O: Sink>(page: &mut Page, content: &[u8], out: &mut O) -> bool
 
 fn push_phys<O: Sink>(page: &mut Page, phys: &Phys, out: &mut O)
     requires { FitsPhys phys.now }
-    ensures { Adds (phys_text phys.now) (printing O.Sink page.old out.old) (printing O.Sink page.new out.new) }
+    ensures { Adds (phys_text phys.now) (printing O.Sink page.old out.old)
+        (printing O.Sink page.new out.new) }
 {
     page.push(state_name(phys.state), out);
     push_route(page, phys.src.get(), phys.dst.get(), out);
@@ -98,7 +100,8 @@ fn push_phys<O: Sink>(page: &mut Page, phys: &Phys, out: &mut O)
 
 // Single pushes of constants are much faster than a list of parts, and there may be millions of such lines.
 fn push_route<O: Sink>(page: &mut Page, src: u16, dst: u16, out: &mut O)
-    ensures { Adds (route_text src dst) (printing O.Sink page.old out.old) (printing O.Sink page.new out.new) }
+    ensures { Adds (route_text src dst) (printing O.Sink page.old out.old)
+        (printing O.Sink page.new out.new) }
 {
     page.push_decimal(u64::from(src), out);
     page.push(b">", out);
@@ -107,7 +110,8 @@ fn push_route<O: Sink>(page: &mut Page, src: u16, dst: u16, out: &mut O)
 
 fn push_order<O: Sink>(page: &mut Page, phys: &Phys, out: &mut O)
     requires { FitsPhys phys.now }
-    ensures { Adds (order_text phys.now) (printing O.Sink page.old out.old) (printing O.Sink page.new out.new) }
+    ensures { Adds (order_text phys.now) (printing O.Sink page.old out.old)
+        (printing O.Sink page.new out.new) }
 {
     page.push(&order(phys), out);
 }
@@ -139,7 +143,8 @@ fn state_name(state: LinkState) -> &'static [u8]
 // Adds all words of a header.
 fn push_header<O: Sink>(page: &mut Page, header: &Header, out: &mut O)
     requires { FitsPhys header.now.phys }
-    ensures { Adds (header_text header.now) (printing O.Sink page.old out.old) (printing O.Sink page.new out.new) }
+    ensures { Adds (header_text header.now) (printing O.Sink page.old out.old)
+        (printing O.Sink page.new out.new) }
 {
     push_phys(page, &header.phys, out);
     push_proto(page, header.proto, out);
@@ -147,7 +152,8 @@ fn push_header<O: Sink>(page: &mut Page, header: &Header, out: &mut O)
 }
 
 fn push_nodes<O: Sink>(page: &mut Page, header: &Header, out: &mut O)
-    ensures { Adds (nodes_text header.now) (printing O.Sink page.old out.old) (printing O.Sink page.new out.new) }
+    ensures { Adds (nodes_text header.now) (printing O.Sink page.old out.old)
+        (printing O.Sink page.new out.new) }
 {
     page.push(b" ", out);
     push_route(page, header.src.get(), header.dst.get(), out);
@@ -164,7 +170,8 @@ fn push_hops<O: Sink>(page: &mut Page, hops: u8, out: &mut O)
 
 #[tactic(auto, unfolding(crate::specs::PacketText::proto_text))]
 fn push_proto<O: Sink>(page: &mut Page, proto: u8, out: &mut O)
-    ensures { Adds (proto_text proto) (printing O.Sink page.old out.old) (printing O.Sink page.new out.new) }
+    ensures { Adds (proto_text proto) (printing O.Sink page.old out.old)
+        (printing O.Sink page.new out.new) }
 {
     match proto {
         PROTO_PAKCTRL => page.push(b" pakctrl", out),
@@ -178,7 +185,8 @@ fn push_proto<O: Sink>(page: &mut Page, proto: u8, out: &mut O)
 
 #[tactic(auto, unfolding(crate::specs::PacketText::fault_text))]
 fn push_fault<O: Sink>(page: &mut Page, fault: PacketFault, out: &mut O)
-    ensures { Adds (fault_text fault) (printing O.Sink page.old out.old) (printing O.Sink page.new out.new) }
+    ensures { Adds (fault_text fault) (printing O.Sink page.old out.old)
+        (printing O.Sink page.new out.new) }
 {
     match fault {
         PacketFault::ReservedState(state) => page.put(

@@ -41,7 +41,8 @@ pub enum Shown<'a> {
 /// Adds a value.
 #[tactic(auto, unfolding(crate::specs::MessageText::shown_text))]
 pub fn push_shown<O: Sink>(page: &mut Page, shown: Shown, out: &mut O)
-    ensures { Adds (shown_text (shown_view shown.entry)) (printing O.Sink page.old out.old) (printing O.Sink page.new out.new) }
+    ensures { Adds (shown_text (shown_view shown.entry)) (printing O.Sink page.old out.old)
+        (printing O.Sink page.new out.new) }
 {
     match shown {
         Shown::Byte(n) => page.push_decimal(u64::from(n), out),
@@ -72,7 +73,8 @@ fn number_of(mode: Mode) -> u64
 
 #[tactic(auto, unfolding(crate::specs::MessageText::shown_text))]
 fn push_time<O: Sink>(page: &mut Page, time: Nsec, out: &mut O)
-    ensures { Adds (shown_text (Time time)) (printing O.Sink page.old out.old) (printing O.Sink page.new out.new) }
+    ensures { Adds (shown_text (Time time)) (printing O.Sink page.old out.old)
+        (printing O.Sink page.new out.new) }
 {
     page.put(
         &[
@@ -86,7 +88,8 @@ fn push_time<O: Sink>(page: &mut Page, time: Nsec, out: &mut O)
 
 /// Adds bytes in hexadecimal, or `-` where there are none.
 pub fn push_bytes<O: Sink>(page: &mut Page, bytes: &[u8], out: &mut O)
-    ensures { Adds (bytes_text bytes.now) (printing O.Sink page.old out.old) (printing O.Sink page.new out.new) }
+    ensures { Adds (bytes_text bytes.now) (printing O.Sink page.old out.old)
+        (printing O.Sink page.new out.new) }
 {
     if bytes.is_empty() {
         page.push(b"-", out);
@@ -97,7 +100,8 @@ pub fn push_bytes<O: Sink>(page: &mut Page, bytes: &[u8], out: &mut O)
 
 /// Adds a name, escaped, or `-` where it is empty.
 pub fn push_name<O: Sink>(page: &mut Page, name: &[u8], out: &mut O)
-    ensures { Adds (or_dash name.now (name_text name.now)) (printing O.Sink page.old out.old) (printing O.Sink page.new out.new) }
+    ensures { Adds (or_dash name.now (name_text name.now)) (printing O.Sink page.old out.old)
+        (printing O.Sink page.new out.new) }
 {
     if name.is_empty() {
         page.push(b"-", out);
@@ -122,7 +126,8 @@ fn push_numbers<O: Sink>(page: &mut Page, bytes: &[u8], out: &mut O)
 }
 
 fn push_settings<O: Sink>(page: &mut Page, bytes: &[u8], out: &mut O)
-    ensures { Adds (list_text (map setting_text (settings_of bytes.now))) (printing O.Sink page.old out.old)
+    ensures { Adds (list_text (map setting_text (settings_of bytes.now)))
+        (printing O.Sink page.old out.old)
         (printing O.Sink page.new out.new) }
 {
     let mut settings = Settings::new(bytes);
@@ -137,7 +142,8 @@ fn push_settings<O: Sink>(page: &mut Page, bytes: &[u8], out: &mut O)
 }
 
 fn push_next_setting<O: Sink>(page: &mut Page, setting: Setting, out: &mut O)
-    ensures { Adds (after_comma (setting_text (setting_view setting.entry))) (printing O.Sink page.old out.old)
+    ensures { Adds (after_comma (setting_text (setting_view setting.entry)))
+        (printing O.Sink page.old out.old)
         (printing O.Sink page.new out.new) }
 {
     page.push(b",", out);
