@@ -23,6 +23,13 @@ use Rattle.pb_collect.specs.declared.outcome.Outcome.{Outcome}
 use Rattle.pb_collect.specs.declared.state.State.{State}
 use Rattle.pb_collect.specs.declared.question.CollectCommand.{CollectCommand}
 
+-- Requests may be sent, and each table at least one, within the most requests that a table may take.
+pub record AreLimits (limits : Limits) : Type 0 where
+  pub sends : 1 ≤ limits.sends
+  pub quiets : 1 ≤ limits.quiets
+  pub budget : 1 ≤ limits.budget
+  pub spent : limits.budget ≤ 1000000
+
 -- the end that comes next; none where the table is stopped
 abbrev pub end_of : Option End → Next
 end_of None = Stop

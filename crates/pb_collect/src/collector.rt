@@ -14,6 +14,7 @@ ghost use Rattle.pb_collect.specs.Exchanges.{BrokenBy};
 ghost use Rattle.pb_collect.specs.Fetching.{AddedStand, EndedByFault, Fetched, FetchedUntil};
 ghost use Rattle.pb_collect.specs.Heard.{Listens};
 ghost use Rattle.pb_collect.specs.Kept.{Keeps};
+ghost use Rattle.pb_collect.specs.Tables.{AreLimits};
 ghost use Rattle.pb_collect.specs.declared.report.DefsLine.{DefsLine as Line};
 ghost use Rattle.pb_collect.specs.Round.{AreInOrder, Asks, AsksBy, AsksUntil, ComesTo, CountsOf, FrontsStand, IsDone, IsEndedBy, Reaches, RoundIs};
 
@@ -244,10 +245,7 @@ fn collect_tables<S: Site>(
     tran: &mut u8,
     limits: Limits,
 ) -> Result<(), Broken>
-    requires sends { 1 ≤ limits.sends }
-    requires quiets { 1 ≤ limits.quiets }
-    requires budget { 1 ≤ limits.budget }
-    requires spent { limits.budget ≤ 1000000 }
+    requires limits { AreLimits limits }
     requires none { outcomes.old.items ≡ [] }
     requires room { tables_max ≤ vec_capacity outcomes.old }
     requires opened { IsOpen archive.old (S.view site.old) }

@@ -10,7 +10,7 @@ ghost use Rattle.pb_collect.specs.Exchanges.{BrokenBy};
 ghost use Rattle.pb_collect.specs.Heard.{Listens};
 ghost use Rattle.pb_collect.specs.Kept.{Keeps};
 ghost use Rattle.pb_collect.specs.Ends.{asked_once_more};
-ghost use Rattle.pb_collect.specs.Tables.{Asked, BreaksAt, BreaksFrom, BreaksOff, CameOut, EndedBy, EndsBy, HasStopOf, channel, end_of, point};
+ghost use Rattle.pb_collect.specs.Tables.{AreLimits, Asked, BreaksAt, BreaksFrom, BreaksOff, CameOut, EndedBy, EndsBy, HasStopOf, channel, end_of, point};
 ghost use Rattle.pb_collect.specs.Progress.{question};
 ghost use Rattle.pb_collect.specs.Taking.{IsReady};
 
@@ -67,10 +67,7 @@ fn ask_until_end<S: Site>(
     limits: Limits,
     id: TableId,
 ) -> Result<Option<End>, Broken>
-    requires sends { 1 ≤ limits.sends }
-    requires quiets { 1 ≤ limits.quiets }
-    requires budget { 1 ≤ limits.budget }
-    requires spent { limits.budget ≤ 1000000 }
+    requires limits { AreLimits limits }
     requires none { progress.old.asked ≡ 0 }
     requires closed { progress.old.is_partial ≡ false }
     requires count { listener.old.ear.count ≤ 2 ^ 60 }
@@ -123,10 +120,7 @@ fn end_of_table<S: Site>(
     id: TableId,
     signature: u16,
 ) -> Result<End, Broken>
-    requires sends { 1 ≤ limits.sends }
-    requires quiets { 1 ≤ limits.quiets }
-    requires budget { 1 ≤ limits.budget }
-    requires spent { limits.budget ≤ 1000000 }
+    requires limits { AreLimits limits }
     requires none { progress.old.asked ≡ 0 }
     requires closed { progress.old.is_partial ≡ false }
     requires count { listener.old.ear.count ≤ 2 ^ 60 }
@@ -185,10 +179,7 @@ pub(crate) fn collect_table<S: Site>(
     id: TableId,
 ) -> Result<Outcome, Broken>
     requires there { id.0 < length archive.old.tables }
-    requires sends { 1 ≤ limits.sends }
-    requires quiets { 1 ≤ limits.quiets }
-    requires budget { 1 ≤ limits.budget }
-    requires spent { limits.budget ≤ 1000000 }
+    requires limits { AreLimits limits }
     requires count { listener.old.ear.count ≤ 2 ^ 60 }
     requires listens { Listens listener.old (S.view site.old).link }
     requires opened { IsOpen archive.old (S.view site.old) }

@@ -26,7 +26,7 @@ requests-init g c =
     record {
       mode = c.ask-mode.ensures.question;
       some = omega (arith, ap (λ (x : Progress). x.asked) is);
-      within = omega (arith, ap (λ (x : Progress). x.asked) is, c.requires.none, c.requires.budget);
+      within = omega (arith, ap (λ (x : Progress). x.asked) is, c.requires.none, c.requires.limits.budget);
       small = subst (λ (l : Layout). content_len l ≤ advance_bytes_max) (sym (ap (λ (x : Progress). x.layout) is)) c.requires.small;
       ready = ready_asked c.args.archive.now c.args.id.0 p q is c.requires.ready;
       opened = c.requires.opened;
