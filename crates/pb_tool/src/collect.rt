@@ -8,18 +8,16 @@ ghost use Rattle.pb_collect.specs.Round.{AreInOrder};
 ghost use Rattle.pb_io.specs.Outside.{output_view};
 ghost use Rattle.pb_io.specs.Page.{Adds, printing};
 ghost use Rattle.pb_tool.specs.Causes.{Counts};
-ghost use Rattle.pb_tool.specs.Closing.{Closes};
 ghost use Rattle.pb_tool.specs.Collect.{RanCollect, RanRound, budget_of, end_text, fault_line, line_text, numbers_text, redefined_text, report_text, round_status, told_text};
 ghost use Rattle.pb_tool.specs.Order.{Collect};
-ghost use Rattle.pb_tool.specs.Refusal.{refusal_status, refusal_text};
 ghost use Rattle.pb_tool.specs.Words.{IsAllowed, IsBudget};
 
 use crate::Status;
 use crate::check::push_names;
 use crate::closing::finish;
-use crate::refusal::{push_refused, status_of_refusal};
+use crate::refusal::refuse;
 use crate::text::push_hex;
-use pb_archive::{Archive, ArchiveFault, TableView};
+use pb_archive::{Archive, TableView};
 use pb_collect::{Collector, End, Outcome, RoundResult};
 use pb_io::{Page, Part, Sink, Site};
 use pb_trans::Limits;
@@ -67,17 +65,6 @@ fn budget_of(budget: Option<u32>) -> u32
         None => BUDGET,
         Some(budget) => budget,
     }
-}
-
-/// Says why the archive wasn't opened.
-pub(crate) fn refuse<O: Sink>(fault: ArchiveFault, out: &mut O) -> Status
-    ensures closed { Closes (refusal_status fault) result (refusal_text fault) (O.written out.old)
-        (O.written out.new) }
-    ensures writes { Counts Status.WriteFault result (O.write_faults out.old) (O.write_faults out.new) }
-{
-    let mut page = Page::new();
-    push_refused(&mut page, fault, out);
-    finish(&mut page, out, status_of_refusal(fault))
 }
 
 // Makes a round over an archive that is open, and says what came of it.
