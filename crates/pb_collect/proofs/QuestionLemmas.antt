@@ -1,16 +1,14 @@
 -- The frame of a collect command, from what each writer wrote.
-use Rattle.std.proofs.Common.{◌≡◌, inr, ℕ, ◌≤◌, List, [], ◌++◌, Result, Ok, Err, IfOk, length, take, drop, refl, sym, ap, subst, ◌∙◌, arith, rules}
+use Rattle.std.proofs.Common.{◌≡◌, inr, ℕ, ◌≤◌, List, [], Result, Ok, Err, IfOk, length, refl, subst, arith, rules}
 use Rattle.std.specs.Prelude.{OnErr, IsOk}
-use Rattle.std.proofs.lemmas.List.{take_at}
 use Rattle.pb_base.specs.declared.refusal.Full.{Full as NoRoom}
 use Rattle.pb_base.specs.Put.{IsWritten, DoesNotFit}
-use Rattle.pb_frame.specs.Framing.{frame, IsContentSize}
-use Rattle.pb_packet.specs.Packet.{full, packet_bytes, IsAddress, PacketBytes}
-use Rattle.pb_packet.specs.declared.headers.Header.{Header}
+use Rattle.pb_frame.specs.Framing.{IsContentSize}
+use Rattle.pb_packet.specs.Packet.{full, IsAddress, PacketBytes}
 use Rattle.pb_bmp5.specs.declared.message.Mode.{Mode}
 use Rattle.pb_bmp5.specs.declared.message.Mode.TheVariants.{All, From, Newest, Range, Times, Part}
 use Rattle.pb_bmp5.specs.Message.{Collect, CollectKeys, Valid, message_bytes}
-use Rattle.pb_collect.specs.Question.{command_header, command_message, command_content, command_frame}
+use Rattle.pb_collect.specs.Question.{command_header, command_message, command_content}
 use Rattle.pb_collect.specs.declared.question.CollectCommand.{CollectCommand}
 
 abbrev plain_keys : ℕ → Mode → ℕ → ℕ → CollectKeys
@@ -41,23 +39,6 @@ fits (Err e) bytes old new small room refused = absurd (omega (arith, refused.sh
 
 pub within : (r : Result ℕ NoRoom) (bytes old new : List ℕ) (n : ℕ) → length bytes ≤ 32 → IfOk r (IsWritten bytes old new) → r ≡ Ok n → n ≤ 32
 within r bytes old new n small written is = let w = at_ok r n (IsWritten bytes old new) is written in omega (arith, w.len, small)
-
--- what was written stands at the front
-written_front : (bytes old new : List ℕ) (n : ℕ) → IsWritten bytes old new n → take n new ≡ bytes
-written_front bytes old new n w = ap (take n) w.parts ∙ take_at bytes (drop n old) n (sym w.len)
-
-pub framed : (c : CollectCommand) (message : List ℕ) (header : Header) (old content : List ℕ) (n : ℕ) (room out : List ℕ) (m : ℕ)
-    (r : Result ℕ NoRoom) (s : Result ℕ NoRoom) → message ≡ command_message c → header ≡ command_header c
-    → IfOk r (IsWritten (packet_bytes (full header message)) old content) → r ≡ Ok n
-    → IfOk s (λ k. k ≡ length (frame (take n content))) → IfOk s (λ k. out ≡ frame (take n content) ++ drop k room) → s ≡ Ok m
-    → take m out ≡ command_frame c
-unfolding command_frame
-framed c message header old content n room out m r s is_message is_header written is_n size framed_out is_m =
-    let packet = written_front _ old content n (at_ok r n _ is_n written) in
-    let len = at_ok s m (λ k. k ≡ length (frame (take n content))) is_m size in
-    let parts = at_ok s m (λ k. out ≡ frame (take n content) ++ drop k room) is_m framed_out in
-    ap (take m) parts ∙ take_at (frame (take n content)) (drop m room) m (sym len)
-    ∙ ap frame (packet ∙ ap (λ (h : Header). packet_bytes (full h message)) is_header ∙ ap (λ l. packet_bytes (full (command_header c) l)) is_message)
 
 -- ---- the content
 

@@ -1,14 +1,14 @@
 //! Collect commands as questions: their frames, and which replies answer them.
 ghost use Rattle.std.specs.Prelude.{◌≡◌, ◌≤◌, ◌<◌, length, take, MatchOption};
 ghost use Rattle.pb_bmp5.specs.Message.{Collect, InRange};
-ghost use Rattle.pb_collect.specs.Question.{AsksOnce, MeansReply, command_frame, command_header, command_keys, command_message};
+ghost use Rattle.pb_collect.specs.Question.{AsksOnce, MeansReply, command_frame, command_keys, command_message};
 
 use crate::answer::{Said, fits};
+use crate::command::{Contact, write_command};
 use pb_ask::Question;
 use pb_base::{Layout, NodeId, TableNo};
 use pb_bmp5::{Bmp5, Mode, read_collect, written_message_is_read};
-use pb_frame::frame_into;
-use pb_packet::{Header, LinkState, PROTO_BMP5, Packet, Phys};
+use pb_packet::PROTO_BMP5;
 use pb_trans::Asked;
 use pb_truth::written_frames_ask_once;
 
@@ -73,10 +73,13 @@ impl CollectCommand {
     {
         let mut message = [0; 32];
         let len = self.write_message(&mut message);
-        let packet = Packet::Full(self.header(), &message[..len]);
-        let mut content = [0; 64];
-        let len = pb_packet::write(&packet, &mut content).unwrap();
-        frame_into(&content[..len], out).unwrap()
+        let contact = Contact {
+            me: self.me,
+            via: self.via,
+            station: self.station,
+            code: self.code,
+        };
+        write_command(&contact, &message[..len], out)
     }
 
     // Writes the message.
@@ -95,24 +98,6 @@ impl CollectCommand {
             fields: &[],
         };
         pb_bmp5::write(&command, out).unwrap()
-    }
-
-    fn header(&self) -> Header
-        ensures { result ≡ command_header self.now }
-    {
-        Header {
-            phys: Phys {
-                state: LinkState::Ready,
-                dst: self.via,
-                more: 1,
-                priority: 1,
-                src: self.me,
-            },
-            proto: PROTO_BMP5,
-            dst: self.station,
-            hops: 0,
-            src: self.me,
-        }
     }
 
     // What a message says that answers the command.

@@ -1,6 +1,11 @@
-use Rattle.pb_collect.proofs.QuestionLemmas.{framed}
+use Rattle.std.proofs.Common.{ap, ◌∙◌}
+use Rattle.pb_frame.specs.Framing.{frame}
+use Rattle.pb_packet.specs.Packet.{full, packet_bytes}
+use Rattle.pb_collect.specs.Command.{frame_to}
+use Rattle.pb_collect.specs.Question.{command_frame, command_header}
 use Rattle.pb_collect.proofs.question.CollectCommand.write_frame.Goals as goal
 
 pub returns-clause-frame : goal.returns-clause-frame
+unfolding command_frame frame_to
 returns-clause-frame c =
-    framed c.args.self.now _ _ _ _ _ _ _ _ _ _ c.write_message-len.ensures.message c.header.ensures c.write.ensures.written c.unwrap-len.ensures c.frame_into.ensures.length c.frame_into.ensures.ok c.unwrap.ensures
+    c.write_command.ensures.frame ∙ ap (λ l. frame (packet_bytes (full (command_header c.args.self.now) l))) c.write_message-len.ensures.message
