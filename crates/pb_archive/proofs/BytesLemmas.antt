@@ -7,9 +7,10 @@ use Rattle.pb_base.proofs.FieldLaws.{ok_is, wide16, number-takes, Takes-then}
 use Rattle.std.specs.List.{All, AllByRecursion, flat_map}
 use Rattle.pb_base.specs.declared.fields.FieldFault.{FieldFault}
 use Rattle.pb_base.specs.Fields.{Unread, unread, IsBytes, number_at, text_at}
+use Rattle.pb_base.specs.Words.{IsNameByte}
 use Rattle.pb_base.proofs.TextLaws.{text-again, text-takes}
 use Rattle.pb_archive.specs.declared.plan.StationPlan.{StationPlan}
-use Rattle.pb_archive.specs.Plan.{Plan, IsNameByte, IsStation, IsBegun, with_station}
+use Rattle.pb_archive.specs.Plan.{Plan, IsStation, IsBegun, with_station}
 use Rattle.pb_archive.proofs.PlanLemmas.{Each-right, begun_before}
 use Rattle.pb_archive.specs.Entry.{half, word, station_bytes}
 use Rattle.pb_archive.specs.Inside.{IsSpelledStation, ReadsStation, ReadsSome}

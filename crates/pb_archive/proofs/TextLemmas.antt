@@ -1,36 +1,13 @@
 -- A plan's text, a line after another.
-use Rattle.std.proofs.Common.{◌≡◌, ℕ, suc, ◌+◌, ◌<◌, ◌≤◌, ◌^◌, List, [], ◌∷◌, ◌++◌, length, get_or, drop, refl, sym, ap, ◌∙◌, arith, append_assoc, length-append, decimal}
+use Rattle.std.proofs.Common.{◌≡◌, ℕ, ◌+◌, ◌<◌, List, [], ◌∷◌, ◌++◌, length, refl, sym, ap, ◌∙◌, arith, append_assoc, length-append, decimal}
 use Rattle.std.specs.Prelude.{codes}
 use Rattle.std.specs.List.{flat_map}
-use Rattle.std.specs.Str.Parse.{AllDigits}
-use Rattle.std.proofs.lemmas.List.{append_cancel_left, get_or_at}
-use Rattle.std.proofs.lemmas.Fmt.{decimal_injective, digits_decimal}
-use Rattle.std.proofs.lemmas.Str.Parse.{numerals_by_value, tells_digits, not_in_digits}
+use Rattle.std.proofs.lemmas.List.{append_cancel_left}
+use Rattle.pb_base.specs.Words.{Lacks}
+use Rattle.pb_base.proofs.WordLemmas.{cut_one, number_next, name_byte}
 use Rattle.pb_archive.specs.declared.plan.StationPlan.{StationPlan}
-use Rattle.pb_archive.specs.Plan.{Plan, IsNameByte, IsStation, IsBegun, with_station, station_line, line_feed, space}
-use Rattle.pb_archive.specs.Inside.{Lacks, first_of, ReadsLines, StationRefused}
-
--- ---- one cut
-
-pub cut_one : (s : ℕ) (xs ys us vs : List ℕ) → xs ++ s ∷ us ≡ ys ++ s ∷ vs → Lacks s xs → Lacks s ys → (xs ≡ ys) × (us ≡ vs)
-cut_one s [] [] us vs is lx ly = (refl, ap (drop 1) is)
-cut_one s [] (y ∷ ys) us vs is lx ly = absurd (ly 0 (omega arith) (sym (ap (λ (l : List ℕ). get_or l 0 0) is)))
-cut_one s (x ∷ xs) [] us vs is lx ly = absurd (lx 0 (omega arith) (ap (λ (l : List ℕ). get_or l 0 0) is))
-cut_one s (x ∷ xs) (y ∷ ys) us vs is lx ly =
-    let rest = cut_one s xs ys us vs (ap (drop 1) is) (λ k lt. lx (suc k) (omega arith)) (λ k lt. ly (suc k) (omega arith)) in
-    let first : x ≡ y = ap (λ (l : List ℕ). get_or l 0 0) is in
-    ((λ j. first j ∷ rest.0 j), rest.1)
-
-pub decimal_lacks : (n s : ℕ) → n < 2 ^ 16 → s < 48 → Lacks s (decimal n)
-decimal_lacks n s small low = not_in_digits (numerals_by_value (AllDigits 10) tells_digits) (decimal n) s (digits_decimal (numerals_by_value (AllDigits 10) tells_digits) n (omega arith)) (λ r. omega (arith, r, low))
-
-pub number_next : (n m s : ℕ) (r q : List ℕ) → n < 2 ^ 16 → m < 2 ^ 16 → s < 48 → decimal n ++ s ∷ r ≡ decimal m ++ s ∷ q → (n ≡ m) × (r ≡ q)
-number_next n m s r q ln lm low is =
-    let cut = cut_one s (decimal n) (decimal m) r q is (decimal_lacks n s ln low) (decimal_lacks m s lm low) in
-    (decimal_injective n m (omega arith) (omega arith) cut.0, cut.1)
-
-name_byte : (byte : ℕ) → IsNameByte byte → 45 ≤ byte
-name_byte byte is = grind arith
+use Rattle.pb_archive.specs.Plan.{Plan, IsStation, IsBegun, with_station, station_line, line_feed, space}
+use Rattle.pb_archive.specs.Inside.{first_of, ReadsLines, StationRefused}
 
 pub name_lacks : (me : ℕ) (s : StationPlan) → IsStation me s → Lacks line_feed s.name
 name_lacks me s is k lt at = omega (arith, name_byte _ (is.name.2 k 0 lt), at)
@@ -50,14 +27,6 @@ station_parts s more =
     ∙ ap (λ (l : List ℕ). decimal s.addr ++ space ∷ l)
     (append_assoc (decimal s.code) (space ∷ s.name ++ line_feed ∷ []) more
     ∙ ap (λ (l : List ℕ). decimal s.code ++ space ∷ l) (append_assoc s.name (line_feed ∷ []) more)))
-
--- ---- no cut
-
--- where none of the bytes is the one at which the text would be cut
-pub no_cut : (s place : ℕ) (bytes before after : List ℕ) → ((k : ℕ) → k < place → get_or bytes k 0 ≡ s → ⊥) → place ≡ length bytes → bytes ≡ before ++ s ∷ after → ⊥
-no_cut s place bytes before after lacks all is =
-    lacks (length before) (omega (arith, all, ap length is, length-append before (s ∷ after)))
-    (ap (λ (l : List ℕ). get_or l (length before) 0) is ∙ get_or_at before s after 0 (length before) refl)
 
 -- ---- further lines
 
@@ -108,6 +77,6 @@ pub station_line_one : (me you : ℕ) (s t : StationPlan) (xs ys : List ℕ) →
 station_line_one me you s t xs ys is it same =
     let parts = append_cancel_left (codes "station ") _ _ (sym (station_parts s xs) ∙ same ∙ station_parts t ys) in
     let addr = number_next s.addr t.addr space _ _ (omega (arith, is.addr)) (omega (arith, it.addr)) (omega arith) parts in
-    let code = number_next s.code t.code space _ _ is.code it.code (omega arith) addr.1 in
+    let code = number_next s.code t.code space _ _ (omega (arith, is.code)) (omega (arith, it.code)) (omega arith) addr.1 in
     let name = cut_one line_feed s.name t.name xs ys code.1 (name_lacks me s is) (name_lacks you t it) in
     ((λ j. record { addr = addr.0 j; code = code.0 j; name = name.0 j }), name.1)

@@ -1,5 +1,5 @@
 -- Steps of the calls, which no promise names.
-use Rattle.std.specs.Prelude.{◌≡◌, ◌⊎◌, ⊤, Bool, true, false, ℕ, ◌+◌, ◌^◌, ◌<◌, ◌≤◌, List, [], ◌++◌, length, map, drop, get_or, Option, None, Some}
+use Rattle.std.specs.Prelude.{◌≡◌, ◌⊎◌, ⊤, Bool, true, false, ℕ, ◌+◌, ◌^◌, ◌<◌, ◌≤◌, List, [], ◌++◌, length, map, drop, Option, None, Some}
 use Rattle.std.specs.List.{All, AllByRecursion, flat_map}
 use Rattle.pb_base.specs.Fields.{Unread, IsBytes}
 use Rattle.pb_tdf.specs.Definition.{Definition, IsTable}
@@ -252,10 +252,6 @@ ReadRefuses view (fault.Stopped told) = ⊥
 ReadRefuses view TooMany = ⊥
 
 -- ---- a plan's text
-
--- none of the bytes is this one
-abbrev pub Lacks : ℕ → List ℕ → Type 0
-Lacks byte bytes = (k : ℕ) → k < length bytes → get_or bytes k 0 ≡ byte → ⊥
 
 -- a text that begins with a plan's first line
 abbrev pub first_of : ℕ → ℕ → List ℕ → List ℕ

@@ -1,6 +1,7 @@
 -- The plan of an archive: the address that asks, the neighbour to which all frames go, and the stations; and its text.
 use Rattle.std.specs.Prelude.{◌≡◌, ◌≢◌, ◌⊎◌, ⊤, ℕ, ◌+◌, ◌^◌, ◌<◌, ◌≤◌, List, [], ◌∷◌, ◌++◌, length, codes, decimal}
 use Rattle.std.specs.List.{All, AllByRecursion, flat_map}
+use Rattle.pb_base.specs.Words.{IsNameByte}
 use Rattle.pb_archive.specs.declared.plan.StationPlan.{StationPlan}
 
 pub record Plan : Type 0 where
@@ -23,12 +24,6 @@ station_name_max = 32
 
 abbrev pub IsAddress : ℕ → Type 0
 IsAddress n = (1 ≤ n) × (n ≤ address_max)
-
--- a letter of ASCII, a digit, a line or a dash
-abbrev pub IsNameByte : ℕ → Type 0
-IsNameByte byte =
-    ((65 ≤ byte) × (byte ≤ 90)) ⊎ (((97 ≤ byte) × (byte ≤ 122))
-    ⊎ (((48 ≤ byte) × (byte ≤ 57)) ⊎ ((byte ≡ 95) ⊎ (byte ≡ 45))))
 
 abbrev pub IsStationName : List ℕ → Type 0
 IsStationName name = (1 ≤ length name) × (length name ≤ station_name_max) × All IsNameByte name

@@ -2,11 +2,11 @@
 ghost use Rattle.std.specs.Prelude.{◌≡◌, ◌≢◌, ◌↔◌, IsTrue, ℕ, ◌<◌, ◌≤◌, [], length, slice_get, option_copied, position, IfSome, MatchOption, IfOk, OnOk, OnErr, IfErr, true, false};
 ghost use Rattle.std.specs.List.{AllByRecursion};
 ghost use Rattle.pb_archive.specs.Inside.{station};
-ghost use Rattle.pb_archive.specs.Plan.{address_max, stations_max, IsAddress, IsNameByte, IsStationName, IsStation, IsBegun, IsPlan, Differs, with_station};
+ghost use Rattle.pb_archive.specs.Plan.{address_max, stations_max, IsAddress, IsStationName, IsStation, IsBegun, IsPlan, Differs, with_station};
 ghost use Rattle.pb_archive.specs.Find.{has_name};
 
 use indexmap::IndexSet;
-use pb_base::{Memory, Name, NodeId};
+use pb_base::{Memory, Name, NodeId, is_name_byte};
 use std::alloc::Global;
 use std::marker::Model;
 
@@ -33,13 +33,6 @@ pub(crate) fn address(n: u16) -> Option<NodeId>
         return None;
     }
     NodeId::new(n)
-}
-
-// Whether a byte may stand in a station's name.
-fn is_name_byte(byte: u8) -> bool
-    ensures { IsTrue result ↔ IsNameByte byte }
-{
-    byte.is_ascii_alphanumeric() || byte == b'_' || byte == b'-'
 }
 
 // Whether the bytes are a station's name.

@@ -1,103 +1,44 @@
 //! A plan as text: the address that asks and its neighbour in the first line, and a station in each further one.
-ghost use Rattle.std.specs.Prelude.{◌≡◌, ℕ, ◌<◌, ◌≤◌, ◌^◌, [], ◌∷◌, ◌++◌, length, get_or, List, IfOk, IfErr, OnOk, MatchOption, decimal};
+ghost use Rattle.std.specs.Prelude.{◌≡◌, ℕ, ◌<◌, ◌^◌, [], ◌∷◌, ◌++◌, List, IfOk, IfErr, OnOk, MatchOption, decimal};
 ghost use Rattle.std.specs.List.{flat_map};
-ghost use Rattle.pb_archive.specs.Inside.{Lacks, LineRefuses, first_of};
+ghost use Rattle.pb_archive.specs.Inside.{LineRefuses, first_of};
 ghost use Rattle.pb_archive.specs.Plan.{IsAddress, IsBegun, IsStation, PlanText, station_line};
 ghost use Rattle.pb_archive.specs.PlanRefusal.{PlanRefuses};
 
 use crate::fault::PlanFault;
 use crate::plan::{Draft, Plan, StationFault, StationPlan, address, station_of};
-use pb_base::{NodeId, parse_decimal};
+use pb_base::{NodeId, after, cut_at, number_until};
 use std::alloc::Global;
 
 const SPACE: u8 = b' ';
 
 const LINE_FEED: u8 = b'\n';
 
-/// The bytes before a byte, and those after it.
+/// A number below 65,536, and what comes after it and its end.
 #[derive(Clone, Copy)]
-pub(crate) struct Halves<'a> {
-    pub(crate) before: &'a [u8],
-    pub(crate) after: &'a [u8],
-}
-
-// The place of the first such byte; the length where there is none.
-fn place_of(bytes: &[u8], stop: u8) -> usize
-    ensures within { result ≤ length bytes.now }
-    ensures before { (k : ℕ) → k < result → get_or bytes.now k 0 ≡ stop → ⊥ }
-    ensures found { result < length bytes.now → get_or bytes.now result 0 ≡ stop }
-{
-    for (place, byte) in bytes.iter().enumerate() {
-        if *byte == stop {
-            return place;
-        }
-    }
-    bytes.len()
-}
-
-// Cuts at the first such byte; none where there is none.
-fn cut_at(bytes: &[u8], stop: u8) -> Option<Halves>
-    ensures { MatchOption result ((before after : List ℕ) → bytes.now ≡ before ++ stop ∷ after → ⊥)
-        (λ c. (bytes.now ≡ c.before.now ++ stop ∷ c.after.now) × Lacks stop c.before.now) }
-{
-    let place = place_of(bytes, stop);
-    if place == bytes.len() {
-        return None;
-    }
-    Some(Halves {
-        before: &bytes[..place],
-        after: &bytes[place + 1..],
-    })
-}
-
-// A number below 65,536.
-fn number(word: &[u8]) -> Option<u16>
-    ensures { MatchOption result ((n : ℕ) → n < 2 ^ 16 → word.now ≡ decimal n → ⊥)
-        (λ n. word.now ≡ decimal n) }
-{
-    let n = match parse_decimal(word) {
-        Some(n) => n,
-        None => return None,
-    };
-    if n > u32::from(u16::MAX) {
-        return None;
-    }
-    Some(n as u16)
-}
-
-/// A number, and what comes after it and its end.
-#[derive(Clone, Copy)]
-pub(crate) struct Numbered<'a> {
+pub(crate) struct Short<'a> {
     pub(crate) n: u16,
     pub(crate) rest: &'a [u8],
 }
 
-// What comes after a prefix; none where the text has another.
-fn after<'a>(text: &'a [u8], prefix: &[u8]) -> Option<&'a [u8]>
-    ensures { MatchOption result ((rest : List ℕ) → text.entry.now ≡ prefix.now ++ rest → ⊥)
-        (λ r. text.entry.now ≡ prefix.now ++ r.now) }
-{
-    text.strip_prefix(prefix)
-}
-
-// The number that comes first and ends with this byte, which is no digit.
-fn number_until(text: &[u8], stop: u8) -> Option<Numbered>
+// The number below 65,536 that comes first and ends with this byte, which is no digit.
+fn short_until(text: &[u8], stop: u8) -> Option<Short>
     requires { stop < 48 }
     ensures { MatchOption result ((n : ℕ) (rest : List ℕ) → n < 2 ^ 16
         → text.now ≡ decimal n ++ stop ∷ rest → ⊥)
         (λ r. (r.n < 2 ^ 16) × (text.now ≡ decimal r.n ++ stop ∷ r.rest.now)) }
 {
-    let halves = match cut_at(text, stop) {
-        Some(halves) => halves,
+    let number = match number_until(text, stop) {
+        Some(number) => number,
         None => return None,
     };
-    match number(halves.before) {
-        Some(n) => Some(Numbered {
-            n,
-            rest: halves.after,
-        }),
-        None => None,
+    if number.n > u32::from(u16::MAX) {
+        return None;
     }
+    Some(Short {
+        n: number.n as u16,
+        rest: number.rest,
+    })
 }
 
 /// An address, and what comes after it and its end.
@@ -114,7 +55,7 @@ fn address_until(text: &[u8], stop: u8) -> Option<Addressed>
         → text.now ≡ decimal n ++ stop ∷ rest → ⊥)
         (λ r. IsAddress r.node × (text.now ≡ decimal r.node ++ stop ∷ r.rest.now)) }
 {
-    let first = match number_until(text, stop) {
+    let first = match short_until(text, stop) {
         Some(first) => first,
         None => return None,
     };
@@ -180,11 +121,11 @@ fn read_station(me: NodeId, text: &[u8]) -> Option<Next>
         Some(text) => text,
         None => return None,
     };
-    let addr = match number_until(text, SPACE) {
+    let addr = match short_until(text, SPACE) {
         Some(addr) => addr,
         None => return None,
     };
-    let code = match number_until(addr.rest, SPACE) {
+    let code = match short_until(addr.rest, SPACE) {
         Some(code) => code,
         None => return None,
     };

@@ -1,40 +1,19 @@
 -- Lines by their words.
-use Rattle.std.proofs.Common.{◌≡◌, ℕ, suc, ◌*◌, ◌<◌, ◌≤◌, ◌^◌, List, [], ◌∷◌, ◌++◌, length, get_or, drop, refl, sym, ap, subst, ◌∙◌, arith, length-append, decimal}
+use Rattle.std.proofs.Common.{◌≡◌, ℕ, ◌*◌, ◌<◌, ◌≤◌, ◌^◌, List, ◌∷◌, ◌++◌, get_or, drop, refl, sym, ap, subst, ◌∙◌, arith, decimal}
 use Rattle.std.specs.Prelude.{codes}
-use Rattle.std.specs.Str.Parse.{AllDigits}
-use Rattle.std.proofs.lemmas.List.{append_cancel_left, get_or_at}
-use Rattle.std.proofs.lemmas.Fmt.{decimal_injective, digits_decimal}
-use Rattle.std.proofs.lemmas.Str.Parse.{numerals_by_value, tells_digits, not_in_digits}
+use Rattle.std.proofs.lemmas.List.{append_cancel_left}
+use Rattle.pb_base.specs.Words.{Lacks}
+use Rattle.pb_base.proofs.WordLemmas.{cut_one, number_next, name_byte}
 use Rattle.pb_script.specs.declared.table.Kind.{Kind}
 use Rattle.pb_script.specs.declared.table.Kind.TheVariants.{Fp2, Ascii}
 use Rattle.pb_script.specs.declared.table.ScriptTable.{ScriptTable}
 use Rattle.pb_script.specs.declared.table.Shape.{Shape}
-use Rattle.pb_script.specs.Inside.{Lacks, IsStation, begun}
+use Rattle.pb_script.specs.Inside.{IsStation, begun}
 use Rattle.pb_script.specs.declared.table.Station.{Station}
-use Rattle.pb_script.specs.Script.{IsNameByte, IsScriptName, IsShape, IsScriptTable, IsAddress, CanBegin, width}
+use Rattle.pb_script.specs.Script.{IsScriptName, IsShape, IsScriptTable, IsAddress, CanBegin, width}
 use Rattle.pb_script.specs.ScriptText.{kind_text, shape_text, table_line, store_line, station_line, space, line_feed}
 
--- ---- one cut
-
-pub cut_one : (s : ℕ) (xs ys us vs : List ℕ) → xs ++ s ∷ us ≡ ys ++ s ∷ vs → Lacks s xs → Lacks s ys → (xs ≡ ys) × (us ≡ vs)
-cut_one s [] [] us vs is lx ly = (refl, ap (drop 1) is)
-cut_one s [] (y ∷ ys) us vs is lx ly = absurd (ly 0 (omega arith) (sym (ap (λ (l : List ℕ). get_or l 0 0) is)))
-cut_one s (x ∷ xs) [] us vs is lx ly = absurd (lx 0 (omega arith) (ap (λ (l : List ℕ). get_or l 0 0) is))
-cut_one s (x ∷ xs) (y ∷ ys) us vs is lx ly =
-    let rest = cut_one s xs ys us vs (ap (drop 1) is) (λ k lt. lx (suc k) (omega arith)) (λ k lt. ly (suc k) (omega arith)) in
-    let first : x ≡ y = ap (λ (l : List ℕ). get_or l 0 0) is in
-    ((λ j. first j ∷ rest.0 j), rest.1)
-
-pub decimal_lacks : (n s : ℕ) → n < 2 ^ 32 → s < 48 → Lacks s (decimal n)
-decimal_lacks n s small low = not_in_digits (numerals_by_value (AllDigits 10) tells_digits) (decimal n) s (digits_decimal (numerals_by_value (AllDigits 10) tells_digits) n (omega arith)) (λ r. omega (arith, r, low))
-
-pub number_next : (n m s : ℕ) (r q : List ℕ) → n < 2 ^ 32 → m < 2 ^ 32 → s < 48 → decimal n ++ s ∷ r ≡ decimal m ++ s ∷ q → (n ≡ m) × (r ≡ q)
-number_next n m s r q ln lm low is =
-    let cut = cut_one s (decimal n) (decimal m) r q is (decimal_lacks n s ln low) (decimal_lacks m s lm low) in
-    (decimal_injective n m (omega arith) (omega arith) cut.0, cut.1)
-
-pub name_byte : (byte : ℕ) → IsNameByte byte → 45 ≤ byte
-name_byte byte is = grind arith
+-- ---- one word
 
 pub name_lacks : (name : List ℕ) → IsScriptName name → Lacks space name
 name_lacks name is k lt at = omega (arith, name_byte _ (is.2 k 0 lt), at)
@@ -50,12 +29,6 @@ kind_next Fp2 Fp2 r q same = (refl, ap (drop 4) same)
 kind_next Fp2 Ascii r q same = absurd (differ 97 102 (omega arith) (sym (ap (λ (l : List ℕ). get_or l 0 0) same)))
 kind_next Ascii Fp2 r q same = absurd (differ 97 102 (omega arith) (ap (λ (l : List ℕ). get_or l 0 0) same))
 kind_next Ascii Ascii r q same = (refl, ap (drop 6) same)
-
--- where none of the bytes is the one at which the text would be cut
-pub no_cut : (s place : ℕ) (bytes before after : List ℕ) → ((k : ℕ) → k < place → get_or bytes k 0 ≡ s → ⊥) → place ≡ length bytes → bytes ≡ before ++ s ∷ after → ⊥
-no_cut s place bytes before after lacks all is =
-    lacks (length before) (omega (arith, all, ap length is, length-append before (s ∷ after)))
-    (ap (λ (l : List ℕ). get_or l (length before) 0) is ∙ get_or_at before s after 0 (length before) refl)
 
 -- ---- the numbers of a table
 

@@ -25,7 +25,8 @@ use Rattle.pb_script.specs.Inside.{filling, IsFilling, after_name}
 use Rattle.pb_script.specs.Script.{Script, IsScript, IsScriptTable, IsScriptName, all_ring_bytes, record_len, width}
 use Rattle.pb_script.specs.Station.{definition_of, field_of, definitions_of, definition_file, layout_of, holding, filled, state_of, record_of, records_below, seconds, values_of, value_of}
 use Rattle.pb_script.proofs.FileLemmas.{name_first}
-use Rattle.pb_script.proofs.LineLemmas.{counts, name_byte}
+use Rattle.pb_base.proofs.WordLemmas.{name_byte}
+use Rattle.pb_script.proofs.LineLemmas.{counts}
 
 -- ---- its table definition file is one
 

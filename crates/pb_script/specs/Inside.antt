@@ -1,5 +1,5 @@
 -- Steps of the calls, which no promise names.
-use Rattle.std.specs.Prelude.{◌≡◌, ◌≢◌, ◌⊎◌, ℕ, zero, suc, ◌^◌, ◌<◌, false, List, [], ◌∷◌, ◌++◌, length, get_or, map}
+use Rattle.std.specs.Prelude.{◌≡◌, ◌≢◌, ◌⊎◌, ℕ, zero, suc, ◌^◌, ◌<◌, false, List, [], ◌∷◌, ◌++◌, map}
 use Rattle.pb_station.specs.State.{KeptStation, Table, StandsFor}
 use Rattle.pb_script.specs.declared.table.ScriptTable.{ScriptTable}
 use Rattle.pb_script.specs.declared.table.Station.{Station}
@@ -10,10 +10,6 @@ use Rattle.pb_script.specs.declared.table.Shape.{Shape}
 use Rattle.pb_tdf.specs.Definition.{word, field_bytes}
 use Rattle.pb_base.specs.Time.{time_bytes}
 use Rattle.std.specs.List.{flat_map}
-
--- no byte of it is this one
-abbrev pub Lacks : ℕ → List ℕ → Type 0
-Lacks stop bytes = (k : ℕ) → k < length bytes → get_or bytes k 0 ≡ stop → ⊥
 
 -- the script of a station without tables
 abbrev pub begun : ℕ → Station → Script

@@ -1,7 +1,8 @@
 -- A script of one station: the collector's address, the station, its tables, and how many records are stored in each.
-use Rattle.std.specs.Prelude.{◌≡◌, ◌≢◌, ◌⊎◌, ℕ, zero, suc, ◌+◌, ◌-◌, ◌*◌, ◌^◌, ◌<◌, ◌≤◌, Bool, true, false, List, [], ◌∷◌, ◌++◌, length, slice_get, position, Option, Some, None}
+use Rattle.std.specs.Prelude.{◌≡◌, ◌≢◌, ℕ, zero, suc, ◌+◌, ◌-◌, ◌*◌, ◌^◌, ◌<◌, ◌≤◌, Bool, true, false, List, [], ◌∷◌, ◌++◌, length, slice_get, position, Option, Some, None}
 use Rattle.std.specs.List.{All, AllByRecursion}
 use Rattle.std.specs.Str.{bytes_eq}
+use Rattle.pb_base.specs.Words.{IsNameByte}
 use Rattle.pb_script.specs.declared.table.Kind.{Kind}
 use Rattle.pb_script.specs.declared.table.Kind.TheVariants.{Fp2, Ascii}
 use Rattle.pb_script.specs.declared.table.ScriptTable.{ScriptTable}
@@ -77,12 +78,6 @@ step (suc n) = suc n
 -- the second of the record of this number
 abbrev pub second_of : Shape → ℕ → ℕ
 second_of shape n = n * step shape.interval
-
--- a letter of ASCII, a digit, a line or a dash
-abbrev pub IsNameByte : ℕ → Type 0
-IsNameByte byte =
-    ((65 ≤ byte) × (byte ≤ 90)) ⊎ (((97 ≤ byte) × (byte ≤ 122))
-    ⊎ (((48 ≤ byte) × (byte ≤ 57)) ⊎ ((byte ≡ 95) ⊎ (byte ≡ 45))))
 
 abbrev pub IsScriptName : List ℕ → Type 0
 IsScriptName name = (1 ≤ length name) × (length name ≤ name_max) × All IsNameByte name

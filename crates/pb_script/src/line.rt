@@ -5,10 +5,8 @@ ghost use Rattle.pb_script.specs.Script.{CanBegin, IsAddress, IsScriptName, IsSc
 ghost use Rattle.pb_script.specs.ScriptText.{self_line, shape_text, station_line, store_line, table_line};
 
 use crate::table::{ScriptTable, Shape, Station};
-use crate::words::{
-    LINE_FEED, SPACE, after, after_station, kind_until_space, name_until_space, number_until,
-};
-use pb_base::{Name, NodeId};
+use crate::words::{LINE_FEED, SPACE, after_station, kind_until_space, name_until_space};
+use pb_base::{Name, NodeId, after, number_until};
 
 /// The highest address of a node that isn't every node's.
 const ADDRESS_MAX: u32 = 4094;

@@ -2,7 +2,8 @@ use Rattle.std.proofs.Common.{sym, ◌∙◌, arith}
 use Rattle.std.specs.Prelude.{codes}
 use Rattle.std.proofs.lemmas.List.{append_cancel_left}
 use Rattle.pb_archive.specs.Plan.{space}
-use Rattle.pb_archive.proofs.TextLemmas.{number_next, first_parts}
+use Rattle.pb_base.proofs.WordLemmas.{number_next}
+use Rattle.pb_archive.proofs.TextLemmas.{first_parts}
 use Rattle.pb_archive.proofs.plan_text.read_first.Goals as goal
 
 pub returns-in-None-after : goal.returns-in-None-after

@@ -3,7 +3,7 @@ use Rattle.std.specs.Prelude.{codes}
 use Rattle.std.proofs.lemmas.List.{append_cancel_left}
 use Rattle.pb_script.specs.Script.{IsAddress}
 use Rattle.pb_script.specs.ScriptText.{line_feed}
-use Rattle.pb_script.proofs.LineLemmas.{number_next}
+use Rattle.pb_base.proofs.WordLemmas.{number_next}
 use Rattle.pb_script.proofs.line.read_self.Goals as goal
 
 pub returns-in-None-number_until : goal.returns-in-None-number_until

@@ -4,7 +4,8 @@ use Rattle.pb_script.specs.declared.table.Kind.{Kind}
 use Rattle.pb_script.specs.declared.table.Shape.{Shape}
 use Rattle.pb_script.specs.Script.{IsShape}
 use Rattle.pb_script.specs.ScriptText.{space, line_feed}
-use Rattle.pb_script.proofs.LineLemmas.{number_next, kind_next, counts}
+use Rattle.pb_base.proofs.WordLemmas.{number_next}
+use Rattle.pb_script.proofs.LineLemmas.{kind_next, counts}
 use Rattle.pb_script.proofs.line.read_shape.Goals as goal
 
 no_shape : (allowed : Bool) (s : Shape) (size interval : ℕ) (kind : Kind) (count : ℕ) → size ≡ s.size → interval ≡ s.interval → kind ≡ s.kind → count ≡ s.count

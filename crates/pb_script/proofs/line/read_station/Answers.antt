@@ -4,7 +4,8 @@ use Rattle.std.proofs.lemmas.List.{append_cancel_left}
 use Rattle.pb_script.specs.Inside.{IsStation}
 use Rattle.pb_script.specs.Script.{IsAddress, Script, CanBegin}
 use Rattle.pb_script.specs.ScriptText.{space, line_feed}
-use Rattle.pb_script.proofs.LineLemmas.{number_next, name_next, station_says}
+use Rattle.pb_base.proofs.WordLemmas.{number_next}
+use Rattle.pb_script.proofs.LineLemmas.{name_next, station_says}
 use Rattle.pb_script.proofs.line.read_station.Goals as goal
 
 pub returns-in-None-name_until_space : goal.returns-in-None-name_until_space

@@ -1,7 +1,8 @@
 use Rattle.std.proofs.Common.{sym, ◌∙◌, subst}
 use Rattle.pb_script.specs.Script.{IsScriptName}
 use Rattle.pb_script.specs.ScriptText.{space}
-use Rattle.pb_script.proofs.LineLemmas.{cut_one, name_lacks}
+use Rattle.pb_base.proofs.WordLemmas.{cut_one}
+use Rattle.pb_script.proofs.LineLemmas.{name_lacks}
 use Rattle.pb_script.proofs.words.name_until_space.Goals as goal
 
 pub returns-in-None-name_of : goal.returns-in-None-name_of

@@ -1,6 +1,6 @@
 use Rattle.std.proofs.Common.{decimal, sym, ◌∙◌}
-use Rattle.pb_script.proofs.LineLemmas.{cut_one, decimal_lacks}
-use Rattle.pb_script.proofs.words.number_until.Goals as goal
+use Rattle.pb_base.proofs.WordLemmas.{cut_one, decimal_lacks}
+use Rattle.pb_base.proofs.words.number_until.Goals as goal
 
 pub returns-in-None-parse_decimal : goal.returns-in-None-parse_decimal
 returns-in-None-parse_decimal c n rest small is =
