@@ -1,5 +1,5 @@
 -- The writing calls: the entry that each adds, and the archive after it.
-use Rattle.std.proofs.Common.{◌≡◌, ℕ, ◌<◌, ◌^◌, List, [], ◌∷◌, ◌++◌, length, Some, sym, ap, subst, ◌∙◌}
+use Rattle.std.proofs.Common.{◌≡◌, ℕ, ◌<◌, ◌^◌, false, List, [], ◌∷◌, ◌++◌, length, Some, sym, ap, subst, ◌∙◌}
 use Rattle.std.proofs.lemmas.List.{append-nil}
 use Rattle.std.specs.Prelude.{slice_get}
 use Rattle.std.specs.List.{AllByRecursion}
@@ -9,6 +9,8 @@ use Rattle.pb_tdf.specs.View.{TableView, view_of}
 use Rattle.pb_archive.specs.Entry.{Advance, Change, Added, Advanced, Stopped, half, word, table_kind, advance_kind, change_bytes, tables_max}
 use Rattle.pb_archive.specs.Inside.{IsSpelled, IsEntryOf, HasWritten}
 use Rattle.pb_archive.specs.Opened.{Register, OpenArchive, register_of, register_after, Stands, IsOpen, GoesOn, IsOther, HasLayout, CanAdvanceHere}
+use Rattle.pb_archive.specs.Refusals.{NeedsOpening}
+use Rattle.pb_archive.specs.Writing.{LeavesMade}
 use Rattle.pb_archive.specs.declared.held.Held.{Held}
 use Rattle.pb_archive.specs.declared.table_view.Stop.{Stop}
 
@@ -37,3 +39,7 @@ opened_after old new o r change gate written same at = record {
   stands = λ f view. subst (λ (x : Register). Stands x o.journal.gate f) (sym same) (subst (λ (n : ℕ). Stands (register_after r change) n f) (sym at) (written.stands f view));
   settled = written.wrote.settled;
 }
+
+pub made_by : (old new : View) (o : OpenArchive) (r : Register) (change : Change) (gate : ℕ) → HasWritten change r gate old new → register_of o ≡ register_after r change → o.journal.gate ≡ gate → NeedsOpening o false
+    → LeavesMade (register_after r change) o new
+made_by old new o r change gate written same at usable = record { changed = same; opened = opened_after old new o r change gate written same at; usable = usable }

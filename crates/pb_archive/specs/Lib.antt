@@ -13,3 +13,4 @@ pub mod Refusals
 pub mod Rows
 pub mod Seen
 pub mod Truth
+pub mod Writing

@@ -1,5 +1,5 @@
 //! Writing calls: each adds one entry, which is settled before it is counted.
-ghost use Rattle.std.specs.Prelude.{◌≡◌, ◌≢◌, ◌<◌, ◌≤◌, ◌+◌, ◌^◌, ◌∷◌, [], ◌++◌, length, true, false, OnOk, OnErr, IfErr, IfOk, IsErrOf, is_err, Some, slice_get};
+ghost use Rattle.std.specs.Prelude.{◌≡◌, ◌<◌, ◌≤◌, ◌+◌, ◌^◌, ◌∷◌, [], ◌++◌, length, false, OnOk, OnErr, IfErr, IfOk, IsErrOf, is_err, Some, slice_get};
 ghost use Rattle.std.specs.List.{AllByRecursion};
 ghost use Rattle.std.specs.Option.{ForSome};
 ghost use Rattle.pb_io.specs.Settled.{IsSettled};
@@ -12,6 +12,7 @@ ghost use Rattle.pb_archive.specs.Held.{Writes, Wrote};
 ghost use Rattle.pb_archive.specs.Inside as inside;
 ghost use Rattle.pb_archive.specs.Opened.{CanAdvanceHere, GoesOn, HasLayout, IsOpen, IsOther, Stands, register_of, register_after, with_table, advance_of, an_advance, stop_of};
 ghost use Rattle.pb_archive.specs.Refusals.{AddRefuses, ChangeRefuses, HasDiskCause, NeedsOpening};
+ghost use Rattle.pb_archive.specs.Writing.{LeavesMade, LeavesRefused};
 
 use crate::archive::Archive;
 use crate::entry::{ADVANCE, Advance, STOP, TABLE};
@@ -134,23 +135,17 @@ impl Archive {
         requires layout { HasLayout table }
         requires opened { NeedsOpening self.old false → IsOpen self.old (D.view disk.old) }
         ensures place { IfOk result (λ id. id.0 ≡ length self.old.tables) }
+        ensures allowed { OnOk result (NeedsOpening self.old false
+            × (length self.old.tables < tables_max)) }
+        ensures refused { IfErr result (AddRefuses self.old) }
+        ensures left { IfErr result (LeavesRefused self.old self.new disk.old disk.new) }
+        ensures cause { HasDiskCause (D.view disk.old).faults (D.view disk.new).faults result }
+        ensures made { OnOk result (LeavesMade
+            (with_table (register_of self.old) station number.0 table) self.new (D.view disk.new)) }
         ensures writes { (d : _) → IsTable d → table ≡ view_of d
             → Writes (Added station number.0 d) (D.view disk.old) (D.view disk.new) }
         ensures wrote { OnOk result ((d : _) → IsTable d → table ≡ view_of d
             → Wrote (Added station number.0 d) (D.view disk.old) (D.view disk.new)) }
-        ensures opened { OnOk result (IsOpen self.new (D.view disk.new)) }
-        ensures allowed { OnOk result (NeedsOpening self.old false
-            × (length self.old.tables < tables_max)) }
-        ensures usable { OnOk result (NeedsOpening self.new false) }
-        ensures changed { OnOk result (register_of self.new
-            ≡ with_table (register_of self.old) station number.0 table) }
-        ensures stays { OnErr result (register_of self.new ≡ register_of self.old) }
-        ensures refused { IfErr result (AddRefuses self.old) }
-        ensures must_reopen { IfErr result (λ fault. fault ≡ ArchiveFault.DiskFault
-            → NeedsOpening self.new true) }
-        ensures nothing { IfErr result (λ fault. fault ≢ ArchiveFault.DiskFault
-            → (disk.new ≡ disk.old) × (self.new ≡ self.old)) }
-        ensures cause { HasDiskCause (D.view disk.old).faults (D.view disk.new).faults result }
     {
         if self.must_reopen {
             return Err(ArchiveFault::MustReopen);
@@ -188,22 +183,17 @@ impl Archive {
         requires follows { (held : _) → slice_get self.old.tables id.0 ≡ Some held
             → CanAdvanceHere held (advance_of form first.0 count bytes.now) }
         requires opened { NeedsOpening self.old false → IsOpen self.old (D.view disk.old) }
+        ensures allowed { OnOk result (NeedsOpening self.old false × GoesOn (register_of self.old) id.0) }
+        ensures refused { IfErr result (ChangeRefuses self.old id.0) }
+        ensures left { IfErr result (LeavesRefused self.old self.new disk.old disk.new) }
+        ensures cause { HasDiskCause (D.view disk.old).faults (D.view disk.new).faults result }
+        ensures made { OnOk result (LeavesMade
+            (register_after (register_of self.old) (an_advance id.0 form first.0 count bytes.now))
+            self.new (D.view disk.new)) }
         ensures writes { Writes (an_advance id.0 form first.0 count bytes.now) (D.view disk.old)
             (D.view disk.new) }
         ensures wrote { OnOk result (Wrote (an_advance id.0 form first.0 count bytes.now)
             (D.view disk.old) (D.view disk.new)) }
-        ensures opened { OnOk result (IsOpen self.new (D.view disk.new)) }
-        ensures allowed { OnOk result (NeedsOpening self.old false × GoesOn (register_of self.old) id.0) }
-        ensures usable { OnOk result (NeedsOpening self.new false) }
-        ensures changed { OnOk result (register_of self.new
-            ≡ register_after (register_of self.old) (an_advance id.0 form first.0 count bytes.now)) }
-        ensures stays { OnErr result (register_of self.new ≡ register_of self.old) }
-        ensures refused { IfErr result (ChangeRefuses self.old id.0) }
-        ensures must_reopen { IfErr result (λ fault. fault ≡ ArchiveFault.DiskFault
-            → NeedsOpening self.new true) }
-        ensures nothing { IfErr result (λ fault. fault ≢ ArchiveFault.DiskFault
-            → (disk.new ≡ disk.old) × (self.new ≡ self.old)) }
-        ensures cause { HasDiskCause (D.view disk.old).faults (D.view disk.new).faults result }
     {
         if self.must_reopen {
             return Err(ArchiveFault::MustReopen);
@@ -240,20 +230,14 @@ impl Archive {
     ) -> Result<(), ArchiveFault>
         requires there { id.0 < length self.old.tables }
         requires opened { NeedsOpening self.old false → IsOpen self.old (D.view disk.old) }
+        ensures allowed { OnOk result (NeedsOpening self.old false × GoesOn (register_of self.old) id.0) }
+        ensures refused { IfErr result (ChangeRefuses self.old id.0) }
+        ensures left { IfErr result (LeavesRefused self.old self.new disk.old disk.new) }
+        ensures cause { HasDiskCause (D.view disk.old).faults (D.view disk.new).faults result }
+        ensures made { OnOk result (LeavesMade
+            (register_after (register_of self.old) (stop_of id.0 told)) self.new (D.view disk.new)) }
         ensures writes { Writes (stop_of id.0 told) (D.view disk.old) (D.view disk.new) }
         ensures wrote { OnOk result (Wrote (stop_of id.0 told) (D.view disk.old) (D.view disk.new)) }
-        ensures opened { OnOk result (IsOpen self.new (D.view disk.new)) }
-        ensures allowed { OnOk result (NeedsOpening self.old false × GoesOn (register_of self.old) id.0) }
-        ensures usable { OnOk result (NeedsOpening self.new false) }
-        ensures changed { OnOk result (register_of self.new
-            ≡ register_after (register_of self.old) (stop_of id.0 told)) }
-        ensures stays { OnErr result (register_of self.new ≡ register_of self.old) }
-        ensures refused { IfErr result (ChangeRefuses self.old id.0) }
-        ensures must_reopen { IfErr result (λ fault. fault ≡ ArchiveFault.DiskFault
-            → NeedsOpening self.new true) }
-        ensures nothing { IfErr result (λ fault. fault ≢ ArchiveFault.DiskFault
-            → (disk.new ≡ disk.old) × (self.new ≡ self.old)) }
-        ensures cause { HasDiskCause (D.view disk.old).faults (D.view disk.new).faults result }
     {
         if self.must_reopen {
             return Err(ArchiveFault::MustReopen);

@@ -2,7 +2,7 @@ use Rattle.std.proofs.Common.{◌∙◌, subst, sym, ap, length, arith, List, �
 use Rattle.pb_archive.specs.Entry.{Advanced}
 use Rattle.pb_archive.specs.Inside as inside
 use Rattle.pb_archive.specs.Opened.{Register, OpenArchive, GoesOn, register_of, register_after, advance_of}
-use Rattle.pb_archive.proofs.CallLemmas.{advance_entry, opened_after}
+use Rattle.pb_archive.proofs.CallLemmas.{advance_entry, made_by}
 use Rattle.pb_archive.proofs.archive.Archive.advance.Goals as goal
 
 pub write-requires-clause-few : goal.write-requires-clause-few
@@ -34,12 +34,13 @@ returns-in-Ok-clause-wrote g c =
     (c.in-Ok.ensures.wrote (Advanced c.args.id.0 a)
     (advance_entry _ c.args.id.0 a c.advance_head.result (subst (λ (r : Register). GoesOn r c.args.id.0) (ap register_of c.self.view_is) c.in-None.ensures) c.requires.follows c.advance_head.ensures.ranges c.advance_head.ensures.head)).wrote
 
-pub returns-in-Ok-clause-opened : goal.returns-in-Ok-clause-opened
-returns-in-Ok-clause-opened g c =
+pub returns-in-Ok-clause-made : goal.returns-in-Ok-clause-made
+returns-in-Ok-clause-made g c =
     let a = advance_of c.args.form c.args.first.0 c.args.count c.args.bytes.now in
     let change = Advanced c.args.id.0 a in
     let written = c.in-Ok.ensures.wrote change
     (advance_entry _ c.args.id.0 a c.advance_head.result (subst (λ (r : Register). GoesOn r c.args.id.0) (ap register_of c.self.view_is) c.in-None.ensures) c.requires.follows c.advance_head.ensures.ranges c.advance_head.ensures.head) in
-    opened_after _ _ _ _ change c.write.new.self.journal.gate written
+    made_by _ _ _ _ change c.write.new.self.journal.gate written
     (c.advance.ensures ∙ ap (λ (r : Register). register_after r change) (ap register_of c.self-2.view_is ∙ c.write.ensures.same))
     (ap (λ (o : OpenArchive). o.journal.gate) c.self-2.view_is)
+    (ap (λ (o : OpenArchive). o.journal.must_reopen) c.self-2.view_is ∙ c.in-Ok.ensures.must_reopen)
