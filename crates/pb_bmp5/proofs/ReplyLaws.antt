@@ -7,11 +7,6 @@ use Rattle.pb_bmp5.specs.declared.message.Mode.TheVariants as mode
 use Rattle.pb_bmp5.specs.Modes.{mode_number, parameter_bytes, ModeFits}
 use Rattle.pb_bmp5.specs.Message.{Message, Collect, CollectReply, ClockReply, StatsReply, DownloadReply, UploadReply, StatsKeys, InRange, message_bytes}
 
--- a reply's keys as one
-abbrev pub state : (osver : List ℕ) (ossig : ℕ) (serial powerup : List ℕ) (state : ℕ) (prog : List ℕ) (progsig : ℕ) (time : Nsec) (result : List ℕ) → StatsKeys
-state osver ossig serial powerup st prog progsig time result =
-    record { osver = osver; ossig = ossig; serial = serial; powerup = powerup; state = st; prog = prog; progsig = progsig; time = time; result = result }
-
 pub at_zero : (P : ℕ → Type 0) (n : ℕ) → n ≡ 0 → P 0 → P n
 at_zero P n e p = subst P (sym e) p
 
@@ -38,10 +33,6 @@ clock_refusal_bytes tran (suc resp) time P refused p = p
 pub clock_refusal_fits : (tran resp : ℕ) (time : Nsec) → (resp ≡ 0 → ⊥) → tran < 2 ^ 8 → resp < 2 ^ 8 → InRange (ClockReply tran resp time)
 clock_refusal_fits tran zero time refused small code = absurd (refused refl)
 clock_refusal_fits tran (suc resp) time refused small code = (omega arith, (small, (code, tt)))
-
-pub stats_answer_bytes : (tran resp : ℕ) (s : StatsKeys) (P : List ℕ → Type 0) → resp ≡ 0 → P (0x98 ∷ tran ∷ resp ∷ drop 3 (message_bytes (StatsReply tran 0 s))) → P (message_bytes (StatsReply tran resp s))
-stats_answer_bytes tran zero s P answered p = p
-stats_answer_bytes tran (suc resp) s P answered p = absurd cc
 
 pub stats_refusal_bytes : (tran resp : ℕ) (s : StatsKeys) (P : List ℕ → Type 0) → (resp ≡ 0 → ⊥) → P (0x98 ∷ tran ∷ resp ∷ []) → P (message_bytes (StatsReply tran resp s))
 stats_refusal_bytes tran zero s P refused p = absurd (refused refl)

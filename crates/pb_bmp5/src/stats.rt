@@ -6,7 +6,6 @@ ghost use Rattle.pb_bmp5.specs.declared.message.Bmp5.TheVariants as bmp5;
 ghost use Rattle.pb_bmp5.specs.Message.{StatsReply, no_stats, message_of, stats, stats_reply, InRange, message_bytes};
 
 use crate::message::{Bmp5, STATS, STATS_REPLY};
-use crate::refusal::write_refusal;
 use pb_base::{Full, MessageFault, Nsec};
 use pb_layout::{Keys, Piece, write_pieces};
 
@@ -37,27 +36,18 @@ pub(crate) fn read_stats_reply<'a>(tran: u8, keys: &mut Keys<'a>) -> Result<Bmp5
     if resp != 0 {
         return Ok(refused(tran, resp));
     }
-    let osver = keys.text()?;
-    let ossig = keys.half()?;
-    let serial = keys.text()?;
-    let powerup = keys.text()?;
-    let state = keys.byte()?;
-    let prog = keys.text()?;
-    let progsig = keys.half()?;
-    let time = keys.time()?;
-    let result = keys.text()?;
     Ok(Bmp5::StatsReply {
         tran,
         resp,
-        osver,
-        ossig,
-        serial,
-        powerup,
-        state,
-        prog,
-        progsig,
-        time,
-        result,
+        osver: keys.text()?,
+        ossig: keys.half()?,
+        serial: keys.text()?,
+        powerup: keys.text()?,
+        state: keys.byte()?,
+        prog: keys.text()?,
+        progsig: keys.half()?,
+        time: keys.time()?,
+        result: keys.text()?,
     })
 }
 
@@ -81,7 +71,6 @@ fn refused(tran: u8, resp: u8) -> Bmp5<'static>
 
 pub(crate) fn write_stats_reply<'a>(
     tran: u8,
-    resp: u8,
     osver: &'a [u8],
     ossig: u16,
     serial: &'a [u8],
@@ -94,21 +83,18 @@ pub(crate) fn write_stats_reply<'a>(
     out: &mut [u8],
 ) -> Result<usize, Full>
     ensures written { IfOk result (IsWritten (message_bytes
-        (message_of (bmp5.StatsReply tran resp osver.entry ossig serial.entry
+        (message_of (bmp5.StatsReply tran 0 osver.entry ossig serial.entry
         powerup.entry state prog.entry progsig time result_text.entry))) out.old out.new) }
     ensures full { OnErr result (DoesNotFit (message_bytes
-        (message_of (bmp5.StatsReply tran resp osver.entry ossig serial.entry
+        (message_of (bmp5.StatsReply tran 0 osver.entry ossig serial.entry
         powerup.entry state prog.entry progsig time result_text.entry))) out.old out.new) }
-    ensures in_range { InRange (message_of (bmp5.StatsReply tran resp osver.entry ossig serial.entry
+    ensures in_range { InRange (message_of (bmp5.StatsReply tran 0 osver.entry ossig serial.entry
         powerup.entry state prog.entry progsig time result_text.entry)) }
 {
-    if resp != 0 {
-        return write_refusal(STATS_REPLY, tran, resp, out);
-    }
     let pieces = [
         Piece::Byte(STATS_REPLY),
         Piece::Byte(tran),
-        Piece::Byte(resp),
+        Piece::Byte(0),
         Piece::Text(osver),
         Piece::Half(ossig),
         Piece::Text(serial),
