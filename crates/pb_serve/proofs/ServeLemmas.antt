@@ -23,7 +23,7 @@ use Rattle.pb_station.specs.Answer.{Said, NotMine, Silent, InCtrl, InBmp5, IsSai
 use Rattle.pb_ctrl.specs.Message as ctrl
 use Rattle.pb_bmp5.specs.Message as bmp5
 use Rattle.pb_serve.specs.Owed.{owed_for, frames_of}
-use Rattle.pb_serve.specs.Serving.{Ends}
+use Rattle.pb_serve.specs.Serving.{Ends, SendFails}
 use Rattle.pb_serve.specs.declared.server.End.{End}
 use Rattle.pb_serve.specs.declared.server.End.TheVariants.{Done, Idle, Flooded, LinkFault}
 use Rattle.pb_io.specs.ChangeLog.{arrival}
@@ -180,43 +180,24 @@ fail_leads k new hearing byte content vs old now e going follows one sends first
     let f = sends s.state s.station in
     unsent f.0 f.1 f.2
   where
+    unserved : (f : List ℕ) (events : World) → (owed s.state content).frames ≡ f ∷ [] → (events ≡ w ++ Sent f ∷ []) ⊎ (events ≡ w) → SendFails first k.goal events
+    unserved f events is happened = record {
+      before = w;
+      moment = moment_of k s.judged (byte ∷ rest) s.state;
+      serving = s.serving;
+      goes_on = goes_on k s.judged (byte ∷ rest) s.state going;
+      byte = byte;
+      rest = rest;
+      content = content;
+      frame = f;
+      next = refl;
+      ends_frame = ends_frame s.judged byte content vs (follows.shows s.judged s.ear) one;
+      is_owed = is;
+      events = happened;
+    }
     unsent : (f : List ℕ) → (owed s.state content).frames ≡ f ∷ [] → GrowsBy old.world now.world (Sent f ∷ []) ⊎ GrowsBy old.world now.world [] → Leads first k.goal w old now (Some LinkFault) new rest
-    unsent f is (inl grows) = record {
-      more = Sent f ∷ [];
-      grows = grows;
-      leads = inr (record {
-        before = w;
-        moment = moment_of k s.judged (byte ∷ rest) s.state;
-        serving = s.serving;
-        goes_on = goes_on k s.judged (byte ∷ rest) s.state going;
-        byte = byte;
-        rest = rest;
-        content = content;
-        frame = f;
-        next = refl;
-        ends_frame = ends_frame s.judged byte content vs (follows.shows s.judged s.ear) one;
-        is_owed = is;
-        events = inl refl;
-      });
-    }
-    unsent f is (inr grows) = record {
-      more = [];
-      grows = grows;
-      leads = inr (record {
-        before = w;
-        moment = moment_of k s.judged (byte ∷ rest) s.state;
-        serving = s.serving;
-        goes_on = goes_on k s.judged (byte ∷ rest) s.state going;
-        byte = byte;
-        rest = rest;
-        content = content;
-        frame = f;
-        next = refl;
-        ends_frame = ends_frame s.judged byte content vs (follows.shows s.judged s.ear) one;
-        is_owed = is;
-        events = inr (append-nil w);
-      });
-    }
+    unsent f is (inl grows) = record { more = Sent f ∷ []; grows = grows; leads = inr (unserved f (w ++ Sent f ∷ []) is (inl refl)) }
+    unsent f is (inr grows) = record { more = []; grows = grows; leads = inr (unserved f (w ++ []) is (inr (append-nil w))) }
 
 -- ---- bytes of one call
 
