@@ -1,17 +1,15 @@
 -- Upload commands: their frames, from what each writer wrote, and what may answer them.
-use Rattle.std.proofs.Common.{◌≡◌, inl, inr, ℕ, ◌≤◌, ◌+◌, List, [], ◌++◌, Result, Ok, IfOk, length, take, drop, refl, sym, ap, subst, ◌∙◌, arith, rules, length-append}
-use Rattle.std.specs.List.{Contains}
+use Rattle.std.proofs.Common.{◌≡◌, inr, ℕ, ◌≤◌, ◌+◌, List, [], ◌++◌, Result, Ok, IfOk, length, take, drop, refl, sym, ap, subst, ◌∙◌, arith, rules, length-append}
 use Rattle.std.proofs.lemmas.List.{take_at}
-use Rattle.std.proofs.lemmas.List.Elements.{Contains-push_cases}
 use Rattle.pb_base.specs.declared.refusal.Full.{Full as NoRoom}
 use Rattle.pb_base.specs.Put.{IsWritten}
 use Rattle.pb_base.specs.Request.{Request}
-use Rattle.pb_frame.specs.Framing.{frame, IsContentSize, Finding, Whole, Faulty, Verdict}
-use Rattle.pb_packet.specs.Packet.{Seen, full, packet_bytes, IsAddress, PacketBytes}
+use Rattle.pb_frame.specs.Framing.{frame, IsContentSize}
+use Rattle.pb_packet.specs.Packet.{full, packet_bytes, IsAddress, PacketBytes}
 use Rattle.pb_packet.specs.declared.headers.Header.{Header}
-use Rattle.pb_bmp5.specs.Message.{Message, Collect, CollectKeys, Upload, UploadKeys, UploadReply, MessageReads, Valid, message_bytes}
-use Rattle.pb_truth.specs.Asked.{AsksFor, HasContent, IsIn}
-use Rattle.pb_truth.proofs.StreamLemmas.{frame_alone}
+use Rattle.pb_bmp5.specs.Message.{Collect, CollectKeys, Upload, UploadKeys, UploadReply, MessageReads, Valid, message_bytes}
+use Rattle.pb_truth.specs.Asked.{AsksFor, IsIn}
+use Rattle.pb_truth.proofs.WrittenLemmas.{its_content, OnePacket, OneMessage}
 use Rattle.pb_collect.specs.Command.{content_to, frame_to, header_to}
 use Rattle.pb_collect.specs.Upload.{MeansUpload, file_name, upload_frame, upload_keys, upload_message}
 use Rattle.pb_collect.specs.declared.command.Contact.{Contact}
@@ -69,23 +67,6 @@ content_packet c me via station = record {
     src = me;
   };
 }
-
-abbrev content_in : Finding → List ℕ
-content_in (Whole content) = content
-content_in (Faulty at why) = []
-
-its_content : (content other : List ℕ) → IsContentSize (length content) → HasContent (frame content) other → other ≡ content
-its_content content other size has =
-    elim (Contains-push_cases [] (record { piece = 1; outcome = Whole content }) (record { piece = has.0; outcome = Whole other }) (subst (λ vs. Contains vs (record { piece = has.0; outcome = Whole other })) (frame_alone content size) has.1)) [
-      | inl none ↦ absurd (omega (arith, none.1))
-      | inr same ↦ sym (ap (λ (v : Verdict). content_in v.outcome) same)
-    ]
-
-abbrev OnePacket : Type 0
-OnePacket = (p q : Seen) (content : List ℕ) → PacketBytes p content → PacketBytes q content → p ≡ q
-
-abbrev OneMessage : Type 0
-OneMessage = (m other : Message) (bytes : List ℕ) → MessageReads m bytes → MessageReads other bytes → m ≡ other
 
 other_message : (tran : ℕ) (keys : UploadKeys) (t : ℕ) (k : CollectKeys) → Collect t k ≡ Upload tran keys → ⊥
 other_message tran keys t k is = cc

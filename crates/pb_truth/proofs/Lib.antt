@@ -12,3 +12,4 @@ pub mod BoundLemmas
 pub mod AnswerLemmas
 pub mod UndisturbedLemmas
 pub mod WholeLemmas
+pub mod WrittenLemmas

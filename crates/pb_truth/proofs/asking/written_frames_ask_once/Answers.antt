@@ -1,31 +1,12 @@
-use Rattle.std.proofs.Common.{◌≡◌, ℕ, List, [], length, refl, inl, inr, arith, subst, sym, ◌∙◌, ap}
-use Rattle.std.specs.List.{Contains}
-use Rattle.std.proofs.lemmas.List.Elements.{Contains-push_cases}
+use Rattle.std.proofs.Common.{◌≡◌, ℕ, List, refl, subst, ◌∙◌, ap}
 use Rattle.pb_base.specs.Request.{Request}
-use Rattle.pb_frame.specs.Framing.{frame, IsContentSize, Finding, Whole, Faulty, Verdict}
 use Rattle.pb_packet.specs.declared.headers.Header.{Header}
-use Rattle.pb_packet.specs.Packet.{Seen, full, PacketBytes}
-use Rattle.pb_bmp5.specs.Message.{Message, Collect, CollectKeys, MessageReads}
-use Rattle.pb_truth.specs.Asked.{request_of, AsksFor, HasContent}
-use Rattle.pb_truth.proofs.StreamLemmas.{frame_alone, frame_has}
+use Rattle.pb_packet.specs.Packet.{full, PacketBytes}
+use Rattle.pb_bmp5.specs.Message.{Collect, CollectKeys, MessageReads}
+use Rattle.pb_truth.specs.Asked.{request_of, AsksFor}
+use Rattle.pb_truth.proofs.StreamLemmas.{frame_has}
+use Rattle.pb_truth.proofs.WrittenLemmas.{its_content, OnePacket, OneMessage}
 use Rattle.pb_truth.proofs.asking.written_frames_ask_once.Goals as goal
-
-abbrev content_in : Finding → List ℕ
-content_in (Whole content) = content
-content_in (Faulty at why) = []
-
-its_content : (content other : List ℕ) → IsContentSize (length content) → HasContent (frame content) other → other ≡ content
-its_content content other size has =
-    elim (Contains-push_cases [] (record { piece = 1; outcome = Whole content }) (record { piece = has.0; outcome = Whole other }) (subst (λ vs. Contains vs (record { piece = has.0; outcome = Whole other })) (frame_alone content size) has.1)) [
-      | inl none ↦ absurd (omega (arith, none.1))
-      | inr same ↦ sym (ap (λ (v : Verdict). content_in v.outcome) same)
-    ]
-
-abbrev OnePacket : Type 0
-OnePacket = (p q : Seen) (content : List ℕ) → PacketBytes p content → PacketBytes q content → p ≡ q
-
-abbrev OneMessage : Type 0
-OneMessage = (m other : Message) (bytes : List ℕ) → MessageReads m bytes → MessageReads other bytes → m ≡ other
 
 one_request : OnePacket → OneMessage → (content message : List ℕ) (header : Header) (tran : ℕ) (k : CollectKeys) (r : Request) → PacketBytes (full header message) content
     → MessageReads (Collect tran k) message → AsksFor content r → r ≡ request_of header tran k
