@@ -5,38 +5,13 @@
 #include <string.h>
 #include <unistd.h>
 
-enum { BLOCK = 65536, PAGE = 65536, ROW = 512, BODY = 65536, VALUES = 10 };
+#include "page.h"
+
+enum { BLOCK = 65536, ROW = 512, BODY = 65536, VALUES = 10 };
 
 static uint8_t block[BLOCK], body[BODY];
-static char page[PAGE];
-static size_t at, held, page_len;
+static size_t at, held;
 static int file;
-
-static void flush(void) {
-    size_t done = 0;
-    while (done < page_len) {
-        ssize_t n = write(1, page + done, page_len - done);
-        if (n <= 0) _exit(4);
-        done += (size_t)n;
-    }
-    page_len = 0;
-}
-
-static void text(const char *s, size_t n) {
-    memcpy(page + page_len, s, n);
-    page_len += n;
-}
-#define TEXT(s) text(s, sizeof s - 1)
-
-static void decimal(uint32_t n) {
-    char digits[10];
-    size_t k = sizeof digits;
-    do {
-        digits[--k] = (char)('0' + n % 10);
-        n /= 10;
-    } while (n);
-    text(digits + k, sizeof digits - k);
-}
 
 static void padded(uint32_t n, int width) {
     for (int k = width - 1; k >= 0; k--, n /= 10)

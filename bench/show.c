@@ -3,46 +3,22 @@
 #include <string.h>
 #include <unistd.h>
 
-enum { PIECE = 65536, PAGE = 65536, LINE = 4250, BODY = 1010 };
+#include "page.h"
+
+enum { PIECE = 65536, LINE = 4250, BODY = 1010 };
 enum state { SKIPPING, BETWEEN, PLAIN, QUOTING };
 
-static uint8_t input[PIECE], page[PAGE], body[BODY];
-static size_t page_len, body_len;
+static uint8_t input[PIECE], body[BODY];
+static size_t body_len;
 static uint64_t count, piece;
 static uint16_t sig;
 static int damaged;
 
-static void flush(void) {
-    size_t done = 0;
-    while (done < page_len) {
-        ssize_t n = write(1, page + done, page_len - done);
-        if (n <= 0) _exit(4);
-        done += (size_t)n;
-    }
-    page_len = 0;
-}
-
-static void text(const char *s, size_t n) {
-    memcpy(page + page_len, s, n);
-    page_len += n;
-}
-#define TEXT(s) text(s, sizeof s - 1)
-
-static void decimal(uint64_t n) {
-    char digits[20];
-    size_t at = sizeof digits;
-    do {
-        digits[--at] = (char)('0' + n % 10);
-        n /= 10;
-    } while (n);
-    text(digits + at, sizeof digits - at);
-}
-
 static void hex(const uint8_t *bytes, size_t n) {
     static const char digits[] = "0123456789ABCDEF";
     for (size_t i = 0; i < n; i++) {
-        page[page_len++] = (uint8_t)digits[bytes[i] >> 4];
-        page[page_len++] = (uint8_t)digits[bytes[i] & 15];
+        page[page_len++] = digits[bytes[i] >> 4];
+        page[page_len++] = digits[bytes[i] & 15];
     }
 }
 

@@ -138,7 +138,7 @@ impl Archive {
         ensures allowed { OnOk result (NeedsOpening self.old false
             × (length self.old.tables < tables_max)) }
         ensures refused { IfErr result (AddRefuses self.old) }
-        ensures left { IfErr result (LeavesRefused self.old self.new disk.old disk.new) }
+        ensures refusal { IfErr result (LeavesRefused self.old self.new disk.old disk.new) }
         ensures cause { HasDiskCause (D.view disk.old).faults (D.view disk.new).faults result }
         ensures made { OnOk result (LeavesMade
             (with_table (register_of self.old) station number.0 table) self.new (D.view disk.new)) }
@@ -185,7 +185,7 @@ impl Archive {
         requires opened { NeedsOpening self.old false → IsOpen self.old (D.view disk.old) }
         ensures allowed { OnOk result (NeedsOpening self.old false × GoesOn (register_of self.old) id.0) }
         ensures refused { IfErr result (ChangeRefuses self.old id.0) }
-        ensures left { IfErr result (LeavesRefused self.old self.new disk.old disk.new) }
+        ensures refusal { IfErr result (LeavesRefused self.old self.new disk.old disk.new) }
         ensures cause { HasDiskCause (D.view disk.old).faults (D.view disk.new).faults result }
         ensures made { OnOk result (LeavesMade
             (register_after (register_of self.old) (an_advance id.0 form first.0 count bytes.now))
@@ -232,7 +232,7 @@ impl Archive {
         requires opened { NeedsOpening self.old false → IsOpen self.old (D.view disk.old) }
         ensures allowed { OnOk result (NeedsOpening self.old false × GoesOn (register_of self.old) id.0) }
         ensures refused { IfErr result (ChangeRefuses self.old id.0) }
-        ensures left { IfErr result (LeavesRefused self.old self.new disk.old disk.new) }
+        ensures refusal { IfErr result (LeavesRefused self.old self.new disk.old disk.new) }
         ensures cause { HasDiskCause (D.view disk.old).faults (D.view disk.new).faults result }
         ensures made { OnOk result (LeavesMade
             (register_after (register_of self.old) (stop_of id.0 told)) self.new (D.view disk.new)) }

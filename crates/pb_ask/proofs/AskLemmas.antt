@@ -1,4 +1,4 @@
--- How the sendings of one request make up its outcome.
+-- How the sendings of one request make up its conclusion.
 use Rattle.std.proofs.Common.{◌≡◌, inl, inr, ◌⊎◌, ℕ, suc, ◌+◌, ◌-◌, ◌*◌, ◌^◌, ◌<◌, ◌≤◌, List, [], ◌∷◌, ◌++◌, Option, Some, None, length, refl, sym, ap, subst, ◌∙◌, length-append, arith}
 use Rattle.pb_base.specs.World.{World, Sent, bytes_heard, quiet_ticks}
 use Rattle.pb_io.specs.Site.{GrowsBy}
@@ -6,8 +6,8 @@ use Rattle.pb_io.specs.View.{Link}
 use Rattle.pb_io.proofs.WorldLemmas.{GrowsBy-nil, GrowsBy-trans}
 use Rattle.pb_trans.specs.declared.asked.Limits.{Limits}
 use Rattle.pb_trans.specs.Waiting.{Waiting, after_sending}
-use Rattle.pb_ask.specs.declared.question.Outcome.{Outcome}
-use Rattle.pb_ask.specs.Asking.{Sending, IsVain, Resent, OutcomeOf, Asks, Breaks, Unsent, SentOnly, Hearing, Stops}
+use Rattle.pb_ask.specs.declared.question.Conclusion.{Conclusion}
+use Rattle.pb_ask.specs.Asking.{Sending, IsVain, Resent, ConclusionOf, Asks, Breaks, Unsent, SentOnly, Hearing, Stops}
 use Rattle.pb_ask.specs.Inside.{Run, Listens, ListensInVain}
 use Rattle.pb_ask.specs.Listening.{Listening}
 use Rattle.pb_ask.specs.Ticking.{RoseBy}
@@ -103,9 +103,9 @@ module _ {A : Type 0} (wanted : Wanted A) (limits : Limits) (old : Listening) (w
       few_pushed : (pushed : List ℕ) (l : Limits) (due : ℕ) (s : Sending wanted l mid due new) → Run mid y s.heard new z s.pushed → new.ear.count ≤ mid.ear.count + 74096
       few_pushed pushed l due s run = omega (arith, run.count, run.room, s.brief, ap length s.split, length-append mid.inbox (bytes_heard s.heard), length-append s.pushed new.inbox)
 
-      ended : (l : Limits) → l ≡ limits → (o : Outcome A) (resends due : ℕ) (s : Sending wanted l mid due new) → Run mid y s.heard new z s.pushed → resends ≡ g.resends → OutcomeOf wanted l resends mid new due s o → Asks wanted limits old w o new z
-      ended l is = subst (λ (k : Limits). (o : Outcome A) (resends due : ℕ) (s : Sending wanted k mid due new) → Run mid y s.heard new z s.pushed → resends ≡ g.resends → OutcomeOf wanted k resends mid new due s o → Asks wanted limits old w o new z) (sym is)
-          (λ o resends due s run same outcome. record {
+      ended : (l : Limits) → l ≡ limits → (o : Conclusion A) (resends due : ℕ) (s : Sending wanted l mid due new) → Run mid y s.heard new z s.pushed → resends ≡ g.resends → ConclusionOf wanted l resends mid new due s o → Asks wanted limits old w o new z
+      ended l is = subst (λ (k : Limits). (o : Conclusion A) (resends due : ℕ) (s : Sending wanted k mid due new) → Run mid y s.heard new z s.pushed → resends ≡ g.resends → ConclusionOf wanted k resends mid new due s o → Asks wanted limits old w o new z) (sym is)
+          (λ o resends due s run same conclusion. record {
             resends = g.resends;
             few = g.fewer;
             before = g.before;
@@ -113,14 +113,14 @@ module _ {A : Type 0} (wanted : Wanted A) (limits : Limits) (old : Listening) (w
             resent = g.resent;
             due = due;
             last = s;
-            ended = subst (λ (n : ℕ). OutcomeOf wanted limits n mid new due s o) same outcome;
+            ended = subst (λ (n : ℕ). ConclusionOf wanted limits n mid new due s o) same conclusion;
             grows = GrowsBy-trans w.world x.world z.world g.before (Sent wanted.frame ∷ s.heard) g.grows (grows_on s.heard run.grows);
             quiets = RoseBy-trans g.before (Sent wanted.frame ∷ s.heard) w.quiets x.quiets z.quiets g.quiets (quiets_on s.heard run.quiets);
           })
 
       -- listening ended the request
-      pub asks_ended : (o : Outcome A) (e_new : Waiting) → Listens wanted mid y e (Some o) new z e_new → Asks wanted limits old w o new z
-      asks_ended o e_new (due, s, run, (resends, is, outcome)) = ended e.limits limits_are o resends due s run (omega (arith, is, sent_are)) outcome
+      pub asks_ended : (o : Conclusion A) (e_new : Waiting) → Listens wanted mid y e (Some o) new z e_new → Asks wanted limits old w o new z
+      asks_ended o e_new (due, s, run, (resends, is, conclusion)) = ended e.limits limits_are o resends due s run (omega (arith, is, sent_are)) conclusion
 
       going : (l : Limits) → l ≡ limits → (e_new : Waiting) (s : Sending wanted l mid 0 new) → Run mid y s.heard new z s.pushed → IsVain wanted l mid new 0 s → g.resends + 1 < limits.sends → e_new ≡ after_sending wanted.asked limits (g.resends + 2)
           → Going wanted limits old w new z e_new
@@ -149,9 +149,9 @@ module _ {A : Type 0} (wanted : Wanted A) (limits : Limits) (old : Listening) (w
       pub sent_more : (e_new : Waiting) → Listens wanted mid y e None new z e_new → e.sent - 1 < e_new.sent - 1
       sent_more e_new (due, s, run, (vain, is, fewer, begun)) = omega (arith, ap (λ (v : Waiting). v.sent) begun, sent_are)
 
-      pub listens_as : {r s : Option (Outcome A)} (e_new : Waiting) → r ≡ s → Listens wanted mid y e r new z e_new → Listens wanted mid y e s new z e_new
-      listens_as {r} {s} e_new is h = subst (λ (o : Option (Outcome A)). Listens wanted mid y e o new z e_new) is h
+      pub listens_as : {r s : Option (Conclusion A)} (e_new : Waiting) → r ≡ s → Listens wanted mid y e r new z e_new → Listens wanted mid y e s new z e_new
+      listens_as {r} {s} e_new is h = subst (λ (o : Option (Conclusion A)). Listens wanted mid y e o new z e_new) is h
 
       -- how many bytes were pushed
-      pub count_more : (r : Option (Outcome A)) (e_new : Waiting) → Listens wanted mid y e r new z e_new → limits.sends ≤ 255 → new.ear.count ≤ old.ear.count + 2 ^ 25
+      pub count_more : (r : Option (Conclusion A)) (e_new : Waiting) → Listens wanted mid y e r new z e_new → limits.sends ≤ 255 → new.ear.count ≤ old.ear.count + 2 ^ 25
       count_more r e_new (due, s, run, ends) small = omega (arith, g.count, few_pushed s.pushed e.limits due s run, g.fewer, small)

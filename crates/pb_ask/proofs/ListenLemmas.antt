@@ -9,9 +9,9 @@ use Rattle.pb_frame.specs.Framing.{Verdict}
 use Rattle.pb_frame.proofs.FollowsLemmas.{Follows-trans, Follows-nil}
 use Rattle.pb_trans.specs.declared.asked.Limits.{Limits}
 use Rattle.pb_ask.specs.declared.question.Ended.TheVariants as ended
-use Rattle.pb_ask.specs.declared.question.Outcome.{Outcome}
-use Rattle.pb_ask.specs.declared.question.Outcome.TheVariants.{Answer, Undelivered, NoAnswer, Flooded}
-use Rattle.pb_ask.specs.Asking.{Sending, Resent, OutcomeOf, Hears, Asks, JudgedAs, Breaks, Unsent, SentOnly, Hearing, Stops}
+use Rattle.pb_ask.specs.declared.question.Conclusion.{Conclusion}
+use Rattle.pb_ask.specs.declared.question.Conclusion.TheVariants.{Answer, Undelivered, NoAnswer, Flooded}
+use Rattle.pb_ask.specs.Asking.{Sending, Resent, ConclusionOf, Hears, Asks, JudgedAs, Breaks, Unsent, SentOnly, Hearing, Stops}
 use Rattle.pb_ask.specs.Events.{HearsOnly}
 use Rattle.pb_ask.specs.Judging.{NoneShows, Holds}
 use Rattle.pb_ask.specs.Listening.{Listening, IsListening}
@@ -75,8 +75,8 @@ listening_on a b events judged waits pushed left grows goes split listening = λ
     )
 
 module _ {A : Type 0} (wanted : Wanted A) (limits : Limits) (old new : Listening) (a b : Link) where
-  pub asks_listening : (outcome : Outcome A) (h : Asks wanted limits old a outcome new b) (all : Hears old (h.before ++ (Sent wanted.frame ∷ h.last.heard)) new) (judged : List ℕ) → IsListening a judged old.inbox → IsListening b (judged ++ all.pushed) new.inbox
-  asks_listening outcome h all judged =
+  pub asks_listening : (conclusion : Conclusion A) (h : Asks wanted limits old a conclusion new b) (all : Hears old (h.before ++ (Sent wanted.frame ∷ h.last.heard)) new) (judged : List ℕ) → IsListening a judged old.inbox → IsListening b (judged ++ all.pushed) new.inbox
+  asks_listening conclusion h all judged =
       listening_on a b (h.before ++ (Sent wanted.frame ∷ h.last.heard)) judged old.inbox all.pushed new.inbox h.grows
       (goes_on-append h.before (Sent wanted.frame ∷ h.last.heard) (goes_on-resent wanted limits h.resends old h.before h.mid h.resent) (goes_on-sending wanted.frame h.last.heard h.last.hearing)) all.split
 
@@ -118,18 +118,18 @@ module _ {A : Type 0} (wanted : Wanted A) (limits : Limits) where
       subst (λ (w : World). HearsVain old w new) (sym is) (after_vain old mid new before (Sent wanted.frame ∷ s.heard) (hears_resent n old before mid resent) (Hears-sending mid new 0 s) vain.none)
 
   module _ (old new : Listening) (a b : Link) where
-    pub judged_as : (outcome : Outcome A) (resends : ℕ) (mid : Listening) (due : ℕ) (s : Sending wanted limits mid due new) (before : List Verdict) → NoneShows (EndsBy wanted) before
-        → OutcomeOf wanted limits resends mid new due s outcome → JudgedAs wanted outcome (before ++ s.shown)
+    pub judged_as : (conclusion : Conclusion A) (resends : ℕ) (mid : Listening) (due : ℕ) (s : Sending wanted limits mid due new) (before : List Verdict) → NoneShows (EndsBy wanted) before
+        → ConclusionOf wanted limits resends mid new due s conclusion → JudgedAs wanted conclusion (before ++ s.shown)
     judged_as (Answer answer) resends mid due s before none o = EndsWith-after (EndsBy wanted) (ended.Answer answer) before s.shown none o.0
     judged_as (Undelivered code) resends mid due s before none o = EndsWith-after (EndsBy wanted) (ended.Undelivered code) before s.shown none o.0
     judged_as NoAnswer resends mid due s before none o = NoneShows-append (EndsBy wanted) before s.shown none o.0.none
     judged_as Flooded resends mid due s before none o = NoneShows-append (EndsBy wanted) before s.shown none o.0
 
-    pub asks_judged : (outcome : Outcome A) (h : Asks wanted limits old a outcome new b) → (all : Hears old (h.before ++ (Sent wanted.frame ∷ h.last.heard)) new) × JudgedAs wanted outcome all.shown
+    pub asks_judged : (conclusion : Conclusion A) (h : Asks wanted limits old a conclusion new b) → (all : Hears old (h.before ++ (Sent wanted.frame ∷ h.last.heard)) new) × JudgedAs wanted conclusion all.shown
     unfolding HearsVain Hears-trans
-    asks_judged outcome h =
+    asks_judged conclusion h =
         let first = hears_resent h.resends old h.before h.mid h.resent in
-        (Hears-trans old h.mid new h.before (Sent wanted.frame ∷ h.last.heard) first.0 (Hears-sending h.mid new h.due h.last), judged_as outcome h.resends h.mid h.due h.last first.0.shown first.1 h.ended)
+        (Hears-trans old h.mid new h.before (Sent wanted.frame ∷ h.last.heard) first.0 (Hears-sending h.mid new h.due h.last), judged_as conclusion h.resends h.mid h.due h.last first.0.shown first.1 h.ended)
 
     -- the content that the unframer holds is among them
     pub asks_held : (answer : A) (h : Asks wanted limits old a (Answer answer) new b) → (all : Hears old (h.before ++ (Sent wanted.frame ∷ h.last.heard)) new) × Holds (EndsBy wanted) (ended.Answer answer) all.shown new.ear

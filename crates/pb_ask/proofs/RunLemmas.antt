@@ -17,15 +17,15 @@ use Rattle.pb_trans.specs.declared.asked.Step.TheVariants as step
 use Rattle.pb_trans.specs.Waiting.{Waiting, Ticks, after_sending}
 use Rattle.pb_ask.specs.declared.question.Ended.{Ended}
 use Rattle.pb_ask.specs.declared.question.Ended.TheVariants as ended
-use Rattle.pb_ask.specs.declared.question.Outcome.{Outcome}
-use Rattle.pb_ask.specs.declared.question.Outcome.TheVariants.{NoAnswer, Flooded}
-use Rattle.pb_ask.specs.Asking.{Sending, IsVain, OutcomeOf}
+use Rattle.pb_ask.specs.declared.question.Conclusion.{Conclusion}
+use Rattle.pb_ask.specs.declared.question.Conclusion.TheVariants.{NoAnswer, Flooded}
+use Rattle.pb_ask.specs.Asking.{Sending, IsVain, ConclusionOf}
 use Rattle.pb_ask.specs.Events.{CameWith}
 use Rattle.pb_ask.specs.Inside.{SetsDue, Heeds, Judged, Counted, Run, Listens, ListensInVain}
 use Rattle.pb_ask.specs.Judging.{NoneShows, EndsWith, Holds, ShownBy}
 use Rattle.pb_ask.specs.Listening.{Listening}
 use Rattle.pb_ask.specs.Ticking.{RoseBy, IsDue}
-use Rattle.pb_ask.specs.Wanted.{Wanted, EndsBy, outcome_is}
+use Rattle.pb_ask.specs.Wanted.{Wanted, EndsBy, conclusion_is}
 use Rattle.pb_ask.proofs.DueLemmas.{due_first, due_chunk, due_tick}
 use Rattle.pb_ask.proofs.EventLemmas.{bytes_heard-append, quiet_ticks-append, bytes_heard-nil, quiet_ticks-nil, bytes_heard-arrival, quiet_ticks-quiet, quiet_ticks-bytes, HearsOnly-append, HearsOnly-arrival}
 use Rattle.pb_ask.proofs.JudgeLemmas.{Holds-after, NoneShows-append, EndsWith-after}
@@ -147,20 +147,20 @@ module _ {A : Type 0} (wanted : Wanted A) (old : Listening) (w : Link) (e_old : 
 
   -- a frame ended the request
   ends_as : (found : Ended A) (resends : ℕ) (new : Listening) (due : ℕ) (s : Sending wanted e_old.limits old due new) → EndsWith P found s.shown → Holds P found s.shown new.ear → CameWith s.heard new.inbox → 0 < due
-      → OutcomeOf wanted e_old.limits resends old new due s (outcome_is found)
+      → ConclusionOf wanted e_old.limits resends old new due s (conclusion_is found)
   ends_as (ended.Answer answer) resends new due s ends holds came some = (ends, holds, came, some)
   ends_as (ended.Undelivered code) resends new due s ends holds came some = (ends, came, some)
 
   the_resends : 1 ≤ e_old.sent → (resends : ℕ) × (e_old.sent ≡ resends + 1)
   the_resends some = (e_old.sent - 1, omega (arith, some))
 
-  pub listens_first : (new : Listening) (found : Ended A) (o : Outcome A) (e_new : Waiting) → length old.inbox ≤ 4096 → e_old ≡ after_sending wanted.asked e_old.limits e_old.sent → 1 ≤ e_old.limits.quiets → 1 ≤ e_old.sent
-      → Judged P old e_old (Some found) new e_new → o ≡ outcome_is found → Listens wanted old w e_old (Some o) new w e_new
+  pub listens_first : (new : Listening) (found : Ended A) (o : Conclusion A) (e_new : Waiting) → length old.inbox ≤ 4096 → e_old ≡ after_sending wanted.asked e_old.limits e_old.sent → 1 ≤ e_old.limits.quiets → 1 ≤ e_old.sent
+      → Judged P old e_old (Some found) new e_new → o ≡ conclusion_is found → Listens wanted old w e_old (Some o) new w e_new
   listens_first new found o e_new room begun quiets sent j is =
       let f : IsFor e_old = record { asked = ap (λ (v : Waiting). v.asked) begun; limits = refl; sent = refl } in
       let due : e_old.due ≡ e_old.limits.quiets = ap (λ (v : Waiting). v.due) begun in
       let resends = the_resends sent in
-      subst (λ (x : Outcome A). Listens wanted old w e_old (Some x) new w e_new) (sym is) (
+      subst (λ (x : Conclusion A). Listens wanted old w e_old (Some x) new w e_new) (sym is) (
         e_new.due,
         first_sending (Some found) new e_new f due j,
         first_run (Some found) new e_new room j,
@@ -243,13 +243,13 @@ module _ {A : Type 0} (wanted : Wanted A) (old : Listening) (w : Link) (e_old : 
       pub mid_heard : e_mid.heard ≡ e.heard
       mid_heard = ap (λ (v : Waiting). v.heard) j.heeds.same
 
-    pub listens_ended : (found : Ended A) (o : Outcome A) (e_new : Waiting) → 1 ≤ e_old.sent → Judged P (record { ear = mid.ear; inbox = bytes }) e (Some found) new e_new → o ≡ outcome_is found
+    pub listens_ended : (found : Ended A) (o : Conclusion A) (e_new : Waiting) → 1 ≤ e_old.sent → Judged P (record { ear = mid.ear; inbox = bytes }) e (Some found) new e_new → o ≡ conclusion_is found
         → Listens wanted old w e_old (Some o) new y e_new
     listens_ended found o e_new sent j is =
         let some : 0 < length bytes = omega (arith, j.some, ap length j.split, length-append j.pushed new.inbox) in
         let resends = the_resends sent in
         let one = more_sending (Some found) e_new j e_new.due (bytes_due (Some found) e_new j some) in
-        subst (λ (v : Outcome A). Listens wanted old w e_old (Some v) new y e_new) (sym is) (
+        subst (λ (v : Conclusion A). Listens wanted old w e_old (Some v) new y e_new) (sym is) (
           e_new.due,
           one,
           more_run (Some found) e_new j,

@@ -7,9 +7,9 @@ use Rattle.pb_frame.specs.Framing.{Verdict, verdicts}
 use Rattle.pb_frame.specs.Hearing.{Follows, StandsFor}
 use Rattle.pb_trans.specs.declared.asked.Asked.{Asked}
 use Rattle.pb_trans.specs.declared.asked.Limits.{Limits}
-use Rattle.pb_ask.specs.declared.question.Outcome.{Outcome}
-use Rattle.pb_ask.specs.declared.question.Outcome.TheVariants.{Answer, Undelivered, NoAnswer, Flooded}
-use Rattle.pb_ask.specs.Asking.{Sending, IsVain, Resent, OutcomeOf, Asks, Breaks, Unsent as UnsentBy, SentOnly as SentOnlyBy, Hearing as HearingBy, Stops}
+use Rattle.pb_ask.specs.declared.question.Conclusion.{Conclusion}
+use Rattle.pb_ask.specs.declared.question.Conclusion.TheVariants.{Answer, Undelivered, NoAnswer, Flooded}
+use Rattle.pb_ask.specs.Asking.{Sending, IsVain, Resent, ConclusionOf, Asks, Breaks, Unsent as UnsentBy, SentOnly as SentOnlyBy, Hearing as HearingBy, Stops}
 use Rattle.pb_ask.specs.Judging.{NoneShows, ShownBy}
 use Rattle.pb_ask.specs.Listening.{Listening}
 use Rattle.pb_ask.specs.Stream.{Stream, ShownAfter, GoesOn, SentOnce, SentInVain, SentAgain, EndsAsked, AsksOn, BreaksOn, Unsent, SentOnly, Hearing, StopsOn}
@@ -117,21 +117,21 @@ module _ {A : Type 0} (wanted : Wanted A) (limits : Limits) where
 
   -- ---- the whole request
 
-  ends_asked : (mid new : Listening) (due resends : ℕ) (s : Sending wanted limits mid due new) (judged : List ℕ) (outcome : Outcome A) → OutcomeOf wanted limits resends mid new due s outcome → EndsAsked limits resends s.heard due (stream_of judged new) outcome
+  ends_asked : (mid new : Listening) (due resends : ℕ) (s : Sending wanted limits mid due new) (judged : List ℕ) (conclusion : Conclusion A) → ConclusionOf wanted limits resends mid new due s conclusion → EndsAsked limits resends s.heard due (stream_of judged new) conclusion
   ends_asked mid new due resends s judged (Answer answer) o = (o.2, o.3)
   ends_asked mid new due resends s judged (Undelivered code) o = (o.1, o.2)
   ends_asked mid new due resends s judged NoAnswer o = (o.0.all, o.1, o.2, o.0.no_flood)
   ends_asked mid new due resends s judged Flooded o = (o.1, o.3, o.2)
 
   -- a listener that stands for a stream after a request that it asked
-  pub record AskedOn (old : Stream) (events : World) (outcome : Outcome A) (new : Listening) : Type 0 where
+  pub record AskedOn (old : Stream) (events : World) (conclusion : Conclusion A) (new : Listening) : Type 0 where
     pub judged : List ℕ
     pub stands : StandsFor new.ear judged
-    pub is : AsksOn wanted limits old events outcome (record { judged = judged; waiting = new.inbox })
+    pub is : AsksOn wanted limits old events conclusion (record { judged = judged; waiting = new.inbox })
 
-  pub asked_on : (old new : Listening) (a b : Link) (outcome : Outcome A) (judged : List ℕ) → StandsFor old.ear judged → (h : Asks wanted limits old a outcome new b)
-      → AskedOn (record { judged = judged; waiting = old.inbox }) (h.before ++ (Sent wanted.frame ∷ h.last.heard)) outcome new
-  asked_on old new a b outcome judged stands h =
+  pub asked_on : (old new : Listening) (a b : Link) (conclusion : Conclusion A) (judged : List ℕ) → StandsFor old.ear judged → (h : Asks wanted limits old a conclusion new b)
+      → AskedOn (record { judged = judged; waiting = old.inbox }) (h.before ++ (Sent wanted.frame ∷ h.last.heard)) conclusion new
+  asked_on old new a b conclusion judged stands h =
       let first = again h.resends old h.before h.mid judged stands h.resent in
       let s = h.last in
       let end = stream_of (first.judged ++ s.pushed) new in
@@ -149,11 +149,11 @@ module _ {A : Type 0} (wanted : Wanted A) (limits : Limits) where
           last_shown = s.shown;
           due = h.due;
           last = one;
-          ends = ends_asked h.mid new h.due h.resends s (first.judged ++ s.pushed) outcome h.ended;
+          ends = ends_asked h.mid new h.due h.resends s (first.judged ++ s.pushed) conclusion h.ended;
           events_are = refl;
           shown = first.shown ++ s.shown;
           goes_on = GoesOn-trans (stream_of judged old) (stream_of first.judged h.mid) end h.before (Sent wanted.frame ∷ s.heard) first.shown s.shown first.all (GoesOn-sent (stream_of first.judged h.mid) end wanted.frame s.heard s.shown one.goes_on);
-          judged = judged_as wanted limits old new a b outcome h.resends h.mid h.due s first.shown first.none h.ended;
+          judged = judged_as wanted limits old new a b conclusion h.resends h.mid h.due s first.shown first.none h.ended;
         };
       }
 

@@ -9,8 +9,8 @@ use Rattle.pb_trans.specs.declared.asked.Limits.{Limits}
 use Rattle.pb_trans.specs.declared.asked.TheConstants.{FLOOD}
 use Rattle.pb_ask.specs.declared.inbox.TheConstants.{CHUNK}
 use Rattle.pb_ask.specs.declared.question.Ended.TheVariants as ended
-use Rattle.pb_ask.specs.declared.question.Outcome.{Outcome}
-use Rattle.pb_ask.specs.declared.question.Outcome.TheVariants.{Answer, Undelivered, NoAnswer, Flooded}
+use Rattle.pb_ask.specs.declared.question.Conclusion.{Conclusion}
+use Rattle.pb_ask.specs.declared.question.Conclusion.TheVariants.{Answer, Undelivered, NoAnswer, Flooded}
 use Rattle.pb_ask.specs.Events.{HearsOnly, CameWith}
 use Rattle.pb_ask.specs.Judging.{NoneShows, EndsWith, Holds, ShownBy}
 use Rattle.pb_ask.specs.Listening.{Listening}
@@ -52,22 +52,22 @@ Resent wanted limits (suc n) old events new =
     × (events ≡ before ++ (Sent wanted.frame ∷ s.heard)))
 
 -- why a request ended after its last sending
-abbrev pub OutcomeOf : {A : Type 0} (wanted : Wanted A) (limits : Limits) (resends : ℕ) (mid new : Listening) (due : ℕ)
-    → Sending wanted limits mid due new → Outcome A → Type 0
-OutcomeOf wanted limits resends mid new due s (Answer answer) =
+abbrev pub ConclusionOf : {A : Type 0} (wanted : Wanted A) (limits : Limits) (resends : ℕ) (mid new : Listening) (due : ℕ)
+    → Sending wanted limits mid due new → Conclusion A → Type 0
+ConclusionOf wanted limits resends mid new due s (Answer answer) =
     EndsWith (EndsBy wanted) (ended.Answer answer) s.shown × Holds (EndsBy wanted) (ended.Answer answer) s.shown new.ear
     × CameWith s.heard new.inbox × (0 < due)
-OutcomeOf wanted limits resends mid new due s (Undelivered code) =
+ConclusionOf wanted limits resends mid new due s (Undelivered code) =
     EndsWith (EndsBy wanted) (ended.Undelivered code) s.shown × CameWith s.heard new.inbox × (0 < due)
-OutcomeOf wanted limits resends mid new due s NoAnswer = IsVain wanted limits mid new due s
+ConclusionOf wanted limits resends mid new due s NoAnswer = IsVain wanted limits mid new due s
     × (resends + 1 ≡ limits.sends) × (due ≡ 0)
-OutcomeOf wanted limits resends mid new due s Flooded = NoneShows (EndsBy wanted) s.shown × (new.inbox ≡ [])
+ConclusionOf wanted limits resends mid new due s Flooded = NoneShows (EndsBy wanted) s.shown × (new.inbox ≡ [])
     × (FLOOD ≤ length (bytes_heard s.heard)) × (0 < due)
 
 -- The frame was sent at least once and at most as often as the limits say, and all sendings but the last were in vain.
 -- Of the good frames that were judged the first that ends the request is the last; what came after it waits.
 pub record Asks {A : Type 0} (wanted : Wanted A) (limits : Limits) (old : Listening) (link_old : Link)
-    (outcome : Outcome A) (new : Listening) (link_new : Link) : Type 0 where
+    (conclusion : Conclusion A) (new : Listening) (link_new : Link) : Type 0 where
   pub resends : ℕ
   pub few : resends < limits.sends
   pub before : World
@@ -75,12 +75,12 @@ pub record Asks {A : Type 0} (wanted : Wanted A) (limits : Limits) (old : Listen
   pub resent : Resent wanted limits resends old before mid
   pub due : ℕ
   pub last : Sending wanted limits mid due new
-  pub ended : OutcomeOf wanted limits resends mid new due last outcome
+  pub ended : ConclusionOf wanted limits resends mid new due last conclusion
   pub grows : GrowsBy link_old.world link_new.world (before ++ (Sent wanted.frame ∷ last.heard))
   pub quiets : RoseBy (quiet_ticks (before ++ (Sent wanted.frame ∷ last.heard))) link_old.quiets link_new.quiets
 
 -- what all judged verdicts show: only the last of them ends a request, where one does
-abbrev pub JudgedAs : {A : Type 0} → Wanted A → Outcome A → List Verdict → Type 0
+abbrev pub JudgedAs : {A : Type 0} → Wanted A → Conclusion A → List Verdict → Type 0
 JudgedAs wanted (Answer answer) shown = EndsWith (EndsBy wanted) (ended.Answer answer) shown
 JudgedAs wanted (Undelivered code) shown = EndsWith (EndsBy wanted) (ended.Undelivered code) shown
 JudgedAs wanted NoAnswer shown = NoneShows (EndsBy wanted) shown

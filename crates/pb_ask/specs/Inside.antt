@@ -9,8 +9,8 @@ use Rattle.pb_trans.specs.declared.asked.Asked.{Asked}
 use Rattle.pb_trans.specs.declared.asked.Limits.{Limits}
 use Rattle.pb_trans.specs.declared.asked.Step.{Step}
 use Rattle.pb_trans.specs.Waiting.{Waiting, Ticks, Counts, after_sending, ticks_after_wait}
-use Rattle.pb_ask.specs.declared.question.Outcome.{Outcome}
-use Rattle.pb_ask.specs.Asking.{Sending, IsVain, OutcomeOf}
+use Rattle.pb_ask.specs.declared.question.Conclusion.{Conclusion}
+use Rattle.pb_ask.specs.Asking.{Sending, IsVain, ConclusionOf}
 use Rattle.pb_ask.specs.Judging.{NoneShows, EndsWith, LastShows, Holds}
 use Rattle.pb_ask.specs.Listening.{Listening}
 use Rattle.pb_ask.specs.Ticking.{RoseBy}
@@ -65,15 +65,15 @@ pub record Run (old : Listening) (link_old : Link) (heard : World) (new : Listen
   pub room : length old.inbox ≤ 4096
   pub count : new.ear.count ≡ old.ear.count + length pushed
 
--- the end of listening: so that the request is to be sent again, or with an outcome
+-- the end of listening: so that the request is to be sent again, or with a conclusion
 abbrev pub RunEnds : {A : Type 0} (wanted : Wanted A) (e : Waiting) (mid new : Listening) (due : ℕ)
-    → Sending wanted e.limits mid due new → Option (Outcome A) → Waiting → Type 0
+    → Sending wanted e.limits mid due new → Option (Conclusion A) → Waiting → Type 0
 RunEnds wanted e mid new due s None e_new = IsVain wanted e.limits mid new due s × (due ≡ 0) × (e.sent < e.limits.sends)
     × (e_new ≡ after_sending wanted.asked e.limits (e.sent + 1))
-RunEnds wanted e mid new due s (Some outcome) e_new = (resends : ℕ) × (e.sent ≡ resends + 1)
-    × OutcomeOf wanted e.limits resends mid new due s outcome
+RunEnds wanted e mid new due s (Some conclusion) e_new = (resends : ℕ) × (e.sent ≡ resends + 1)
+    × ConclusionOf wanted e.limits resends mid new due s conclusion
 
-abbrev pub Listens : {A : Type 0} → Wanted A → Listening → Link → Waiting → Option (Outcome A) → Listening → Link
+abbrev pub Listens : {A : Type 0} → Wanted A → Listening → Link → Waiting → Option (Conclusion A) → Listening → Link
     → Waiting → Type 0
 Listens wanted old link_old e result new link_new e_new =
     (due : ℕ) × (s : Sending wanted e.limits old due new) × Run old link_old s.heard new link_new s.pushed

@@ -5,8 +5,8 @@ use Rattle.pb_frame.specs.Framing.{Verdict, verdicts}
 use Rattle.pb_trans.specs.declared.asked.Limits.{Limits}
 use Rattle.pb_trans.specs.declared.asked.TheConstants.{FLOOD}
 use Rattle.pb_ask.specs.declared.inbox.TheConstants.{CHUNK}
-use Rattle.pb_ask.specs.declared.question.Outcome.{Outcome}
-use Rattle.pb_ask.specs.declared.question.Outcome.TheVariants.{Answer, Undelivered, NoAnswer, Flooded}
+use Rattle.pb_ask.specs.declared.question.Conclusion.{Conclusion}
+use Rattle.pb_ask.specs.declared.question.Conclusion.TheVariants.{Answer, Undelivered, NoAnswer, Flooded}
 use Rattle.pb_ask.specs.Asking.{JudgedAs}
 use Rattle.pb_ask.specs.Events.{HearsOnly, CameWith}
 use Rattle.pb_ask.specs.Judging.{NoneShows}
@@ -56,7 +56,7 @@ SentAgain wanted limits (suc n) old events new =
     × ((heard : World) × SentInVain wanted limits mid heard 0 new × (events ≡ before ++ (Sent wanted.frame ∷ heard)))
 
 -- how the last sending came to its end
-abbrev pub EndsAsked : {A : Type 0} → Limits → ℕ → World → ℕ → Stream → Outcome A → Type 0
+abbrev pub EndsAsked : {A : Type 0} → Limits → ℕ → World → ℕ → Stream → Conclusion A → Type 0
 EndsAsked limits resends heard due new (Answer answer) = CameWith heard new.waiting × (0 < due)
 EndsAsked limits resends heard due new (Undelivered code) = CameWith heard new.waiting × (0 < due)
 EndsAsked limits resends heard due new NoAnswer = (new.waiting ≡ []) × (resends + 1 ≡ limits.sends) × (due ≡ 0)
@@ -66,7 +66,7 @@ EndsAsked limits resends heard due new Flooded = (new.waiting ≡ []) × (0 < du
 -- A request was asked: it was sent at least once and at most as often as the limits say, all sendings but the last were
 -- in vain, and of the verdicts that were judged the first that ends the request is the last.
 pub record AsksOn {A : Type 0} (wanted : Wanted A) (limits : Limits) (old : Stream) (events : World)
-    (outcome : Outcome A) (new : Stream) : Type 0 where
+    (conclusion : Conclusion A) (new : Stream) : Type 0 where
   pub resends : ℕ
   pub few : resends < limits.sends
   pub before : World
@@ -76,11 +76,11 @@ pub record AsksOn {A : Type 0} (wanted : Wanted A) (limits : Limits) (old : Stre
   pub last_shown : List Verdict
   pub due : ℕ
   pub last : SentOnce wanted limits mid heard last_shown due new
-  pub ends : EndsAsked limits resends heard due new outcome
+  pub ends : EndsAsked limits resends heard due new conclusion
   pub events_are : events ≡ before ++ (Sent wanted.frame ∷ heard)
   pub shown : List Verdict
   pub goes_on : GoesOn old events shown new
-  pub judged : JudgedAs wanted outcome shown
+  pub judged : JudgedAs wanted conclusion shown
 
 -- A call of the link failed at a request, before which no verdict ended it: a sending, which was made or not, or after
 -- it a call that hears.

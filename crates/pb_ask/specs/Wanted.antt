@@ -7,8 +7,8 @@ use Rattle.pb_trans.specs.declared.asked.Step.TheVariants as step
 use Rattle.pb_trans.specs.Asking.{Means, IsPleaseWait}
 use Rattle.pb_ask.specs.declared.question.Ended.{Ended}
 use Rattle.pb_ask.specs.declared.question.Ended.TheVariants.{Answer, Undelivered}
-use Rattle.pb_ask.specs.declared.question.Outcome.{Outcome}
-use Rattle.pb_ask.specs.declared.question.Outcome.TheVariants as outcome
+use Rattle.pb_ask.specs.declared.question.Conclusion.{Conclusion}
+use Rattle.pb_ask.specs.declared.question.Conclusion.TheVariants as conclusion
 
 -- a request: its frame, what is asked of whom, and which message means which answer
 pub record Wanted (A : Type 0) : Type 1 where
@@ -36,7 +36,7 @@ EndsBy wanted ended content = IsPacket (EndsAs wanted ended) content
 abbrev pub AsksToWait : Asked → ℕ → List ℕ → Type 0
 AsksToWait asked seconds content = IsPacket (IsPleaseWait asked seconds) content
 
--- the outcome of a request that a frame ended
-abbrev pub outcome_is : {A : Type 0} → Ended A → Outcome A
-outcome_is (Answer answer) = outcome.Answer answer
-outcome_is (Undelivered code) = outcome.Undelivered code
+-- the conclusion of a request that a frame ended
+abbrev pub conclusion_is : {A : Type 0} → Ended A → Conclusion A
+conclusion_is (Answer answer) = conclusion.Answer answer
+conclusion_is (Undelivered code) = conclusion.Undelivered code

@@ -3,10 +3,10 @@ ghost use Rattle.std.specs.Prelude.{◌≡◌, ℕ, ◌<◌, ◌≤◌, length, 
 ghost use Rattle.pb_frame.specs.Framing.{IsContentSize};
 ghost use Rattle.pb_ask.specs.declared.question.Ended.{Ended};
 ghost use Rattle.pb_ask.specs.Inside.{HeedsContent, Counted};
-ghost use Rattle.pb_ask.specs.Wanted.{EndsAs, EndsBy, outcome_is};
+ghost use Rattle.pb_ask.specs.Wanted.{EndsAs, EndsBy, conclusion_is};
 ghost use Rattle.pb_trans.specs.Waiting.{Hears};
 
-use crate::question::{Ended, Outcome, Question};
+use crate::question::{Conclusion, Ended, Question};
 use pb_packet::{Header, Packet};
 use pb_trans::{Exchange, Step};
 
@@ -52,13 +52,13 @@ fn judge_packet<Q: Question>(
     }
 }
 
-/// The outcome of a request that a frame ended.
-pub(crate) fn outcome_of<A>(ended: Ended<A>) -> Outcome<A>
-    ensures { result ≡ outcome_is ended }
+/// The conclusion of a request that a frame ended.
+pub(crate) fn conclusion_of<A>(ended: Ended<A>) -> Conclusion<A>
+    ensures { result ≡ conclusion_is ended }
 {
     match ended {
-        Ended::Answer(answer) => Outcome::Answer(answer),
-        Ended::Undelivered(code) => Outcome::Undelivered(code),
+        Ended::Answer(answer) => Conclusion::Answer(answer),
+        Ended::Undelivered(code) => Conclusion::Undelivered(code),
     }
 }
 

@@ -5,7 +5,7 @@ ghost use Rattle.pb_frame.specs.Hearing.{Hearing, StandsFor};
 ghost use Rattle.pb_base.specs.World.{World, Sent, sent};
 ghost use Rattle.pb_io.specs.View.{Link};
 ghost use Rattle.pb_trans.specs.declared.asked.Limits.{Limits};
-ghost use Rattle.pb_ask.specs.declared.question.Outcome.{Outcome};
+ghost use Rattle.pb_ask.specs.declared.question.Conclusion.{Conclusion};
 ghost use Rattle.pb_ask.specs.Asking.{Hears, Asks, Stops, Resent, JudgedAs};
 ghost use Rattle.pb_ask.specs.Judging.{NoneShows, Holds};
 ghost use Rattle.pb_ask.specs.Listening.{Listening, IsListening};
@@ -15,15 +15,15 @@ ghost use Rattle.pb_ask.specs.Wanted.{EndsBy};
 use crate::question::{Ended, Question};
 
 /// All that was judged in one call: the first frame that ends the request is the last that was judged, and where the
-/// outcome is none of a frame, or a call failed, none did. The content of an answer is that of one of the verdicts.
+/// conclusion is none of a frame, or a call failed, none did. The content of an answer is that of one of the verdicts.
 pub fn law_judged<Q: Question>()
     ensures asks { (q : Q) (limits : Limits) (old new : Listening) (a b : Link)
-        (outcome : Outcome Q.Answer)
-        (h : Asks (Q.wanted q) limits old a outcome new b)
+        (conclusion : Conclusion Q.Answer)
+        (h : Asks (Q.wanted q) limits old a conclusion new b)
         → (all : Hears old (h.before ++ (Sent (Q.wanted q).frame ∷ h.last.heard)) new)
-        × JudgedAs (Q.wanted q) outcome all.shown }
+        × JudgedAs (Q.wanted q) conclusion all.shown }
     ensures held { (q : Q) (limits : Limits) (old new : Listening) (a b : Link) (answer : Q.Answer)
-        (h : Asks (Q.wanted q) limits old a (Outcome.Answer answer) new b)
+        (h : Asks (Q.wanted q) limits old a (Conclusion.Answer answer) new b)
         → (all : Hears old (h.before ++ (Sent (Q.wanted q).frame ∷ h.last.heard)) new)
         × Holds (EndsBy (Q.wanted q)) (Ended.Answer answer) all.shown new.ear }
     ensures stops { (q : Q) (limits : Limits) (old new : Listening) (a b : Link)
@@ -34,8 +34,8 @@ pub fn law_judged<Q: Question>()
 /// What was heard since the stream began is what was judged, and what waits: after a request as before it.
 pub fn law_listening<Q: Question>()
     ensures asks { (q : Q) (limits : Limits) (old new : Listening) (a b : Link)
-        (outcome : Outcome Q.Answer)
-        (h : Asks (Q.wanted q) limits old a outcome new b)
+        (conclusion : Conclusion Q.Answer)
+        (h : Asks (Q.wanted q) limits old a conclusion new b)
         (all : Hears old (h.before ++ (Sent (Q.wanted q).frame ∷ h.last.heard)) new) (judged : List ℕ)
         → IsListening a judged old.inbox → IsListening b (judged ++ all.pushed) new.inbox }
     ensures stops { (q : Q) (limits : Limits) (old new : Listening) (a b : Link)
@@ -48,12 +48,12 @@ pub fn law_listening<Q: Question>()
 /// the bytes and the verdicts of the stream, and the listener stands for the bytes that were judged then.
 pub fn law_stream<Q: Question>()
     ensures asks { (q : Q) (limits : Limits) (old new : Listening) (a b : Link)
-        (outcome : Outcome Q.Answer)
+        (conclusion : Conclusion Q.Answer)
         (judged : List ℕ) → StandsFor old.ear judged
-        → (h : Asks (Q.wanted q) limits old a outcome new b)
+        → (h : Asks (Q.wanted q) limits old a conclusion new b)
         → (after : List ℕ) × StandsFor new.ear after
         × AsksOn (Q.wanted q) limits (record { judged = judged; waiting = old.inbox })
-        (h.before ++ (Sent (Q.wanted q).frame ∷ h.last.heard)) outcome (record { judged = after; waiting = new.inbox }) }
+        (h.before ++ (Sent (Q.wanted q).frame ∷ h.last.heard)) conclusion (record { judged = after; waiting = new.inbox }) }
     ensures stops { (q : Q) (limits : Limits) (old new : Listening) (a b : Link) (judged : List ℕ)
         → StandsFor old.ear judged
         → (h : Stops (Q.wanted q) limits old a new b)

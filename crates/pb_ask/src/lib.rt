@@ -10,4 +10,4 @@ mod question;
 pub use inbox::CHUNK;
 pub use laws::{law_judged, law_listening, law_message, law_resent, law_stream};
 pub use listener::Listener;
-pub use question::{Ended, Outcome, Question};
+pub use question::{Conclusion, Ended, Question};

@@ -9,8 +9,8 @@ ghost use Rattle.pb_ask.specs.Wanted.{EndsBy};
 ghost use Rattle.pb_trans.specs.Waiting.{after_sending};
 
 use crate::inbox::Inbox;
-use crate::judging::{count, judge_content, outcome_of};
-use crate::question::{Ended, Outcome, Question};
+use crate::judging::{conclusion_of, count, judge_content};
+use crate::question::{Conclusion, Ended, Question};
 use pb_frame::{FRAME_MAX, Heard, Unframer};
 use pb_io::{Failed, Site};
 use pb_trans::{Exchange, Limits, Step};
@@ -52,12 +52,12 @@ impl Listener {
         site: &mut S,
         limits: Limits,
         question: &Q,
-    ) -> Result<Outcome<Q::Answer>, Failed>
+    ) -> Result<Conclusion<Q::Answer>, Failed>
         requires sends { 1 ≤ limits.sends }
         requires quiets { 1 ≤ limits.quiets }
         requires count { self.old.ear.count ≤ 2 ^ 61 }
         ensures asks { IfOk result
-            (λ outcome. Asks (Q.wanted question.now) limits self.old (S.view site.old).link outcome self.new
+            (λ conclusion. Asks (Q.wanted question.now) limits self.old (S.view site.old).link conclusion self.new
             (S.view site.new).link) }
         ensures stops { OnErr result
             (Stops (Q.wanted question.now) limits self.old (S.view site.old).link self.new (S.view site.new).link) }
@@ -71,8 +71,8 @@ impl Listener {
         let mut exchange = Exchange::begin(question.asked(), limits);
         loop {
             site.send(&frame[..len])?;
-            if let Some(outcome) = self.listen(site, &mut exchange, question)? {
-                return Ok(outcome);
+            if let Some(conclusion) = self.listen(site, &mut exchange, question)? {
+                return Ok(conclusion);
             }
         }
     }
@@ -92,7 +92,7 @@ impl Listener {
         site: &mut S,
         exchange: &mut Exchange,
         question: &Q,
-    ) -> Result<Option<Outcome<Q::Answer>>, Failed>
+    ) -> Result<Option<Conclusion<Q::Answer>>, Failed>
         requires begun { exchange.old ≡ after_sending (Q.wanted question.now).asked
             exchange.old.limits exchange.old.sent }
         requires sent { 1 ≤ exchange.old.sent }
@@ -109,17 +109,17 @@ impl Listener {
         ensures cause { HasCause (S.view site.old).link.faults (S.view site.new).link.faults result }
     {
         if let Some(ended) = self.judge(exchange, question) {
-            return Ok(Some(outcome_of(ended)));
+            return Ok(Some(conclusion_of(ended)));
         }
         loop {
             let n = self.inbox.fill(site)?;
             if let Some(ended) = self.judge(exchange, question) {
-                return Ok(Some(outcome_of(ended)));
+                return Ok(Some(conclusion_of(ended)));
             }
             match count(exchange, n) {
                 Step::Resend => return Ok(None),
-                Step::NoAnswer => return Ok(Some(Outcome::NoAnswer)),
-                Step::Flooded => return Ok(Some(Outcome::Flooded)),
+                Step::NoAnswer => return Ok(Some(Conclusion::NoAnswer)),
+                Step::Flooded => return Ok(Some(Conclusion::Flooded)),
                 _ => {}
             }
         }

@@ -15,7 +15,7 @@ pub enum Ended<A> {
 
 /// What came of a request.
 #[derive(Drop)]
-pub enum Outcome<A> {
+pub enum Conclusion<A> {
     /// The reply came, and means this answer.
     Answer(A),
     /// It wasn't delivered, for the reason of this code.

@@ -25,16 +25,18 @@ use Rattle.pb_truth.specs.Asked.{IsIn, WasAsked}
 use Rattle.pb_truth.specs.Image.{Good, StaysTrue}
 use Rattle.pb_truth.specs.Pairs.{AreGood, AsksAllowed}
 use Rattle.pb_truth.proofs.ViewLemmas.{good_asks, good_start, good_then, good_writes}
-use Rattle.pb_collect.specs.Adding.{Adds, AllGrowFrom, GrownFrom, HoldsAtLeast, StaysOrGrows}
-use Rattle.pb_collect.proofs.KeptLemmas.{grows_by, grows_link, grows_same, grows_trans, has_after, has_before, keeps_list, same_archive}
+use Rattle.pb_collect.specs.Adding.{Adds, HoldsAtLeast, StaysOrGrows}
+use Rattle.pb_collect.specs.Defining.{DiskKeeps}
+use Rattle.pb_collect.specs.Kept.{AllGoOnBy, GoesOnBy}
+use Rattle.pb_collect.proofs.KeptLemmas.{all_go_on, by_none, by_opened, by_trans, from_left, grows_by, grows_link, has_after, has_before, keeps_list, same_archive}
 
 -- ---- archives go on
 
-stays_trans : (x y z : List ℕ) → StaysOrGrows x y → StaysOrGrows y z → StaysOrGrows x z
-stays_trans x y z (inl p) (inl q) = inl (keeps_list x y z p q)
-stays_trans x y z (inl p) (inr q) = inr (record { one = q.one; other = q.other; before = has_before x y q.one p q.before; after = q.after; extends = q.extends })
-stays_trans x y z (inr p) (inl q) = inr (record { one = p.one; other = p.other; before = p.before; after = has_after y z p.other q p.after; extends = p.extends })
-stays_trans x y z (inr p) (inr q) =
+pub grows_on_trans : (x y z : List ℕ) → StaysOrGrows x y → StaysOrGrows y z → StaysOrGrows x z
+grows_on_trans x y z (inl p) (inl q) = inl (keeps_list x y z p q)
+grows_on_trans x y z (inl p) (inr q) = inr (record { one = q.one; other = q.other; before = has_before x y q.one p q.before; after = q.after; extends = q.extends })
+grows_on_trans x y z (inr p) (inl q) = inr (record { one = p.one; other = p.other; before = p.before; after = has_after y z p.other q p.after; extends = p.extends })
+grows_on_trans x y z (inr p) (inr q) =
     let same = same_archive y p.other q.one p.after q.before in
     inr (record {
       one = p.one;
@@ -44,48 +46,23 @@ stays_trans x y z (inr p) (inr q) =
       extends = Extends-trans p.one p.other q.other p.extends (subst (λ a. Extends a q.other) (sym same) q.extends);
     })
 
--- what a crash leaves now goes on from what it left then
-pub now_grown : (old new : View) → IsLawful new → LeavesOnly old new (GrownFrom old) → (w : World) (image : List ℕ) → new.link.world ≡ Some w → new.image image → GrownFrom old w image
-now_grown old new lawful leaves w image world is = leaves.each w image (lawful.counts_now old.moment w image leaves.later world is)
-
-from_trans : (a b : View) → IsLawful b → LeavesOnly a b (GrownFrom a) → (w : World) (image : List ℕ) → GrownFrom b w image → GrownFrom a w image
-from_trans a b lawful leaves w image q =
-    let p = now_grown a b lawful leaves q.before q.first q.known q.was in
-    record {
-      first = p.first;
-      was = p.was;
-      goes_on = stays_trans p.first q.first image p.goes_on q.goes_on;
-      before = p.before;
-      more = p.more ++ q.more;
-      known = p.known;
-      is = q.is ∙ ap (λ l. l ++ q.more) p.is ∙ append_assoc p.before p.more q.more;
-    }
+pub grows_on_kept : (x y : List ℕ) → KeepsEntries x y → StaysOrGrows x y
+grows_on_kept x y kept = inl kept
 
 -- ---- runs of calls
 
 pub adds_none : (d : View) → IsLawful d → Adds d d
-adds_none d lawful = record {
-  grows = grows_same d.link.world;
-  leaves = started d (GrownFrom d) lawful (λ w image world is. record {
-    first = image;
-    was = is;
-    goes_on = inl (inl refl);
-    before = w;
-    more = [];
-    known = world;
-    is = sym (append-nil w);
-  });
-  good = λ good. good_start d lawful good;
-}
+adds_none d lawful = by_none StaysOrGrows grows_on_kept (Unit {0}) d lawful
 
 pub adds_trans : (a b c : View) → IsLawful b → Adds a b → Adds b c → Adds a c
-adds_trans a b c lawful p q = record {
-  grows = grows_trans a.link.world b.link.world c.link.world p.grows q.grows;
-  leaves = LeavesOnly-trans a b c (GrownFrom a) (GrownFrom b) (GrownFrom a) p.leaves q.leaves (λ w image from. from) (λ w image from. from_trans a b lawful p.leaves w image from);
-  good = λ good.
-      let first = p.good good in
-      good_then a b c first (q.good first.here);
-}
+adds_trans a b c lawful p q =
+    by_trans StaysOrGrows grows_on_trans (Unit {0}) (Unit {0}) (Unit {0}) a b c lawful p q (λ good is. tt) (λ good after is. tt)
+
+pub adds_opened : (old new : View) → IsLawful new → Leaves KeepsEntries old new → new.link ≡ old.link → Adds old new
+adds_opened = by_opened StaysOrGrows grows_on_kept (Unit {0})
+
+pub all_grow_on : (file : Option (List ℕ)) (mid new : View) → IsLawful new → Changes SameEntries file mid.file → IsSettled mid → Adds mid new → AllGoOnBy StaysOrGrows file new
+all_grow_on file mid new lawful same settled adds = all_go_on StaysOrGrows grows_on_kept grows_on_trans file mid new lawful same settled adds.leaves
 
 -- ---- a request for no records
 
@@ -99,7 +76,7 @@ none_asked frame more r none all asked =
 pub adds_asked : (frame : List ℕ) (most : ℕ) (old new : View) → IsLawful new → AsksNone frame → Passes frame most old new → Adds old new
 adds_asked frame most old new lawful none passes = record {
   grows = grows_by old.link.world new.link.world passes.events passes.grows;
-  leaves = LeavesOnly-weaker old new (Resending frame most old) (GrownFrom old) passes.leaves (λ w image r. record {
+  leaves = LeavesOnly-weaker old new (Resending frame most old) (GoesOnBy StaysOrGrows old) passes.leaves (λ w image r. record {
     first = image;
     was = r.image;
     goes_on = inl (inl refl);
@@ -108,7 +85,7 @@ adds_asked frame most old new lawful none passes = record {
     known = r.known;
     is = r.is;
   });
-  good = λ good. good_asks old new lawful good
+  good = λ good is. good_asks old new lawful good
       (LeavesOnly-weaker old new (Resending frame most old) (AsksAllowed old) passes.leaves (λ w image r. record {
         was = r.image;
         before = r.before;
@@ -136,19 +113,12 @@ step_grows : (x y : List ℕ) → StaysOrGoesOn x y → StaysOrGrows x y
 step_grows x y (inl same) = inl (inl same)
 step_grows x y (inr goes) = inr goes
 
-pub adds_written : (change : Change) (old new : View) → AddsNoRows change → IsLawful new → Writes change old new → Adds old new
+adds_written : (change : Change) (old new : View) → AddsNoRows change → IsLawful new → Writes change old new → Adds old new
 adds_written change old new is lawful writes = record {
   grows = grows_link old.link new.link writes.link;
-  leaves = LeavesOnly-weaker old new (LeftBy StaysOrGoesOn old) (GrownFrom old) writes.goes_on (λ w image left. record {
-    first = left.1.0;
-    was = left.1.1;
-    goes_on = step_grows left.1.0 image left.1.2;
-    before = w;
-    more = [];
-    known = left.0;
-    is = sym (append-nil w);
-  });
-  good = λ good. good_writes one_list one_archive (λ a c allowed. Extends-after a c allowed) change old new lawful good (λ w image a world here has. stays_true change is w a) writes;
+  leaves = LeavesOnly-weaker old new (LeftBy StaysOrGoesOn old) (GoesOnBy StaysOrGrows old) writes.goes_on
+      (λ w image left. from_left StaysOrGoesOn StaysOrGrows old w image (λ first. step_grows first image) left);
+  good = λ good none. good_writes one_list one_archive (λ a c allowed. Extends-after a c allowed) change old new lawful good (λ w image a world here has. stays_true change is w a) writes;
 }
 
 -- ---- what is held
@@ -178,16 +148,12 @@ kept_by r change first image a kept (inr (inr made)) has =
     )
 
 -- whether the change was made or not
-pub holds_written : (o : OpenArchive) (change : Change) (old new : View) → IsLawful new → IsOpen o old → Writes change old new → HoldsAtLeast (register_of o) new
+holds_written : (o : OpenArchive) (change : Change) (old new : View) → IsLawful new → IsOpen o old → Writes change old new → HoldsAtLeast (register_of o) new
 holds_written o change old new lawful opened writes = record {
   each = λ w image a world is has.
       let left = writes.leaves.each w image (lawful.counts_now old.moment w image writes.leaves.later world is) in
       kept_by (register_of o) change left.1.0 image a (λ x there. kept_open o old opened left.1.0 x left.1.1 there) left.1.2 has;
 }
-
--- what is held of this is held of what is the same
-pub holds_same : (r s : Register) (now : View) → s ≡ r → HoldsAtLeast r now → HoldsAtLeast s now
-holds_same r s now is holds = subst (λ (x : Register). HoldsAtLeast x now) (sym is) holds
 
 -- a call that only looks at the disk leaves an archive open
 pub open_reads : (o : OpenArchive) (a b : View) → ReadsOnly a b → IsOpen o a → IsOpen o b
@@ -196,35 +162,21 @@ open_reads o a b reads opened = record {
   settled = λ c is. reads.file ∙ opened.settled c (reads.fewer c is);
 }
 
--- ---- an opening
+-- ---- calls of the disk alone
 
--- it leaves the entries as they are
-pub adds_opened : (old new : View) → IsLawful new → Leaves KeepsEntries old new → new.link ≡ old.link → Adds old new
-adds_opened old new lawful leaves link =
-    let goods : AreGood old → (w : World) (image : List ℕ) → LeftBy KeepsEntries old w image → Good w image = λ good w image left.
-    let first = good w left.1.0 left.0 left.1.1 in
-    record { archive = first.archive; has = has_after left.1.0 image first.archive left.1.2 first.has; sound = first.sound; asked = first.asked } in
-    record {
-      grows = grows_link old.link new.link link;
-      leaves = LeavesOnly-weaker old new (LeftBy KeepsEntries old) (GrownFrom old) leaves (λ w image left. record {
-        first = left.1.0;
-        was = left.1.1;
-        goes_on = inl left.1.2;
-        before = w;
-        more = [];
-        known = left.0;
-        is = sym (append-nil w);
-      });
-      good = λ good. record {
-        leaves = LeavesOnly-weaker old new (LeftBy KeepsEntries old) Good leaves (goods good);
-        here = λ w image world is. goods good w image (leaves.each w image (lawful.counts_now old.moment w image leaves.later world is));
-      };
-    }
+pub disk_none : (o : OpenArchive) (d : View) → IsLawful d → IsOpen o d → DiskKeeps o d d
+disk_none o d lawful opened = record { holds = holds_open o d opened; adds = adds_none d lawful; link = refl }
 
--- once an archive is opened, whatever a crash leaves goes on from the file as it read before
-pub all_grow_on : (file : Option (List ℕ)) (mid new : View) → IsLawful new → Changes SameEntries file mid.file → IsSettled mid → Adds mid new → AllGrowFrom file new
-all_grow_on file mid new lawful same settled adds w image first world is was =
-    let from = now_grown mid new lawful adds.leaves w image world is in
-    let g = same.on first was in
-    let one : g.0 ≡ from.first = same_Some g.0 from.first (sym g.1 ∙ settled from.first from.was) in
-    stays_trans first from.first image (inl (inr (subst (λ f. SameEntries first f) one g.2))) from.goes_on
+pub disk_trans : (o p : OpenArchive) (a b c : View) → IsLawful b → DiskKeeps o a b → DiskKeeps p b c → DiskKeeps p a c
+disk_trans o p a b c lawful x y = record { holds = y.holds; adds = adds_trans a b c lawful x.adds y.adds; link = y.link ∙ x.link }
+
+pub disk_made : (o : OpenArchive) (change : Change) (old new : View) → AddsNoRows change → IsLawful new → IsOpen o new → Writes change old new → DiskKeeps o old new
+disk_made o change old new is lawful opened writes = record { holds = holds_open o new opened; adds = adds_written change old new is lawful writes; link = writes.link }
+
+-- a change whose writing failed
+pub disk_failed : (before after : OpenArchive) (change : Change) (old new : View) → AddsNoRows change → IsLawful new → IsOpen before old → register_of after ≡ register_of before → Writes change old new → DiskKeeps after old new
+disk_failed before after change old new is lawful opened same writes = record {
+  holds = subst (λ (x : Register). HoldsAtLeast x new) (sym same) (holds_written before change old new lawful opened writes);
+  adds = adds_written change old new is lawful writes;
+  link = writes.link;
+}

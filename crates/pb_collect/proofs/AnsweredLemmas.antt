@@ -11,7 +11,7 @@ use Rattle.pb_packet.specs.declared.headers.Header.{Header}
 use Rattle.pb_packet.specs.Packet.{full, packet_bytes}
 use Rattle.pb_trans.specs.declared.asked.Asked.{Asked}
 use Rattle.pb_trans.specs.declared.asked.Limits.{Limits}
-use Rattle.pb_ask.specs.Asking.{Asks, OutcomeOf, Resent, Sending}
+use Rattle.pb_ask.specs.Asking.{Asks, ConclusionOf, Resent, Sending}
 use Rattle.pb_ask.specs.Events.{HearsOnly}
 use Rattle.pb_ask.specs.Judging.{FindingShows, Holds}
 use Rattle.pb_ask.specs.Listening.{Listening}
@@ -19,8 +19,8 @@ use Rattle.pb_ask.specs.Ticking.{IsDue, IsSet, BySending, AtHand, ByChunk}
 use Rattle.pb_ask.specs.Wanted.{EndsAs, EndsBy}
 use Rattle.pb_ask.specs.declared.question.Ended.{Ended}
 use Rattle.pb_ask.specs.declared.question.Ended.TheVariants as ended
-use Rattle.pb_ask.specs.declared.question.Outcome.{Outcome}
-use Rattle.pb_ask.specs.declared.question.Outcome.TheVariants.{Answer, Undelivered, NoAnswer, Flooded}
+use Rattle.pb_ask.specs.declared.question.Conclusion.{Conclusion}
+use Rattle.pb_ask.specs.declared.question.Conclusion.TheVariants.{Answer, Undelivered, NoAnswer, Flooded}
 use Rattle.pb_ask.proofs.EventLemmas.{quiet_ticks-append, quiet_ticks-sent}
 use Rattle.pb_ask.proofs.JudgeLemmas.{of_packet}
 use Rattle.pb_bmp5.specs.TrueReply.{Delivered}
@@ -139,9 +139,9 @@ pub record Settled (first last : World) (l : Listening) (w : World) : Type 0 whe
   pub closed : IsClosed judged
 
 -- A request was answered by the one frame that was heard after it.
-pub record Answered (first last : World) (c : CollectCommand) (l_new : Listening) (w v : World) (outcome : Outcome Said) : Type 0 where
+pub record Answered (first last : World) (c : CollectCommand) (l_new : Listening) (w v : World) (conclusion : Conclusion Said) : Type 0 where
   pub said : Said
-  pub is : outcome ≡ Answer said
+  pub is : conclusion ≡ Answer said
   pub pre : World
   pub unsent : AllByRecursion IsUnsent pre
   pub events : World
@@ -222,9 +222,9 @@ module _ (first last : World) (undisturbed : Undisturbed first last) (laws : Fra
       nothing_left holds = all_judged J its.content closed its.size s.pushed left all_bytes laws.unflagged before v shows (behind holds)
 
   -- what a request comes to
-  pub answered : (old l_new : Listening) (a b : Link) (w v e : World) (outcome : Outcome Said) → a.world ≡ Some w → b.world ≡ Some v → last ≡ v ++ e → Settled first last old w
-      → Asks (wanted_reply c) limits old a outcome l_new b → Answered first last c l_new w v outcome
-  answered old l_new a b w v e outcome a_is b_is last_is settled asks = by outcome asks.ended
+  pub answered : (old l_new : Listening) (a b : Link) (w v e : World) (conclusion : Conclusion Said) → a.world ≡ Some w → b.world ≡ Some v → last ≡ v ++ e → Settled first last old w
+      → Asks (wanted_reply c) limits old a conclusion l_new b → Answered first last c l_new w v conclusion
+  answered old l_new a b w v e conclusion a_is b_is last_is settled asks = by conclusion asks.ended
     where
       grown : (more : World) × (b.world ≡ Some (w ++ more)) × (stream_events more ≡ asks.before ++ (Sent (command_frame c) ∷ asks.last.heard))
       grown = asks.grows.on w a_is
@@ -274,7 +274,7 @@ module _ (first last : World) (undisturbed : Undisturbed first last) (laws : Fra
       mid_none : asks.mid.inbox ≡ []
       mid_none = ap (λ (l : Listening). l.inbox) alone.1 ∙ settled.none
 
-      by : (outcome : Outcome Said) → OutcomeOf (wanted_reply c) limits asks.resends asks.mid l_new asks.due asks.last outcome → Answered first last c l_new w v outcome
+      by : (conclusion : Conclusion Said) → ConclusionOf (wanted_reply c) limits asks.resends asks.mid l_new asks.due asks.last conclusion → Answered first last c l_new w v conclusion
       by (Answer said) done =
           let s = asks.last in
           let J = settled.judged in

@@ -48,9 +48,9 @@ pub asked_same : (c : CollectCommand) (limits : Limits) (from to : Point) (next 
     → Exchanged c limits from.channel.listener from.channel.link from.progress next to.channel.listener to.channel.link to.progress → to.progress.asked ≡ from.progress.asked
 asked_same c limits from to (Ask mode) never e = absurd (never mode refl)
 asked_same c limits from to Stop never e =
-    ap (λ (x : Progress). x.asked) e.comes.1 ∙ (took_same c to.channel.listener e.outcome from.progress e.mid e.took).0
+    ap (λ (x : Progress). x.asked) e.comes.1 ∙ (took_same c to.channel.listener e.conclusion from.progress e.mid e.took).0
 asked_same c limits from to (Ends end) never e =
-    ap (λ (x : Progress). x.asked) e.comes.1 ∙ (took_same c to.channel.listener e.outcome from.progress e.mid e.took).0
+    ap (λ (x : Progress). x.asked) e.comes.1 ∙ (took_same c to.channel.listener e.conclusion from.progress e.mid e.took).0
 
 -- the last request of a table
 pub asked_last : (limits : Limits) (r : Register) (o : OpenArchive) (id : ℕ) (held : Held) (start from to : Point) (n : ℕ) (next : Next) (c : CollectCommand)

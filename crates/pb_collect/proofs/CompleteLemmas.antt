@@ -18,8 +18,8 @@ use Rattle.pb_trans.specs.declared.asked.Limits.{Limits}
 use Rattle.pb_archive.specs.Archive.{front}
 use Rattle.pb_archive.specs.Plan.{Plan}
 use Rattle.pb_archive.specs.declared.held.Held.{Held}
-use Rattle.pb_ask.specs.declared.question.Outcome.{Outcome}
-use Rattle.pb_ask.specs.declared.question.Outcome.TheVariants as outcome
+use Rattle.pb_ask.specs.declared.question.Conclusion.{Conclusion}
+use Rattle.pb_ask.specs.declared.question.Conclusion.TheVariants as conclusion
 use Rattle.pb_truth.specs.Bound.{AnswersOf, Ends, FullAnswer, GoesThrough, IsNotBefore, Unasked, Further, bound, mode_of, next_known, parts_max}
 use Rattle.pb_truth.specs.Bound as truth
 use Rattle.pb_truth.specs.Learning.{Known, learned}
@@ -74,11 +74,11 @@ bound_more : (layout : Layout) (front oldest less more : ℕ) → less ≤ more 
 bound_more layout front oldest less more le =
     omega (arith, mul-le-mul_right {m = less - max front oldest} {n = more - max front oldest} (parts_max layout + 1) (omega (arith, le)))
 
--- an answer with response code 0 isn't another outcome
-not_refused : (said : Said) (code : ℕ) → said.resp ≡ 0 → ends.WasRefused (outcome.Answer said) code → code ≡ 0
+-- an answer with response code 0 isn't another conclusion
+not_refused : (said : Said) (code : ℕ) → said.resp ≡ 0 → ends.WasRefused (conclusion.Answer said) code → code ≡ 0
 not_refused said code complete refused = let same : said.resp ≡ code = cc refused.1 in sym same ∙ complete
 
-said_more : (said : Said) (more : Bool) → ends.WasAnswered (outcome.Answer said) more → said.more ≡ more
+said_more : (said : Said) (more : Bool) → ends.WasAnswered (conclusion.Answer said) more → said.more ≡ more
 said_more said more is = cc is
 
 module _ (first last : World) (undisturbed : Undisturbed first last) (laws : FramingLaws) (limits : Limits) (some : 1 ≤ limits.quiets) (plan : Plan) (held : Held) (layout : Layout)
@@ -104,7 +104,7 @@ module _ (first last : World) (undisturbed : Undisturbed first last) (laws : Fra
     pub said : Said
     pub complete : said.resp ≡ 0
     pub more : reply.more ≡ said.more
-    pub comes : Comes limits.budget mid (outcome.Answer said) next to.progress
+    pub comes : Comes limits.budget mid (conclusion.Answer said) next to.progress
     pub mid_is : mid ≡ after_all from.progress reply.fragments
     pub at_mid : IsAt mid (learned layout now reply.fragments)
     pub at_next : IsAt (asked_once_more (kept_partial mid)) (next_known layout now reply.fragments)
@@ -119,13 +119,13 @@ module _ (first last : World) (undisturbed : Undisturbed first last) (laws : Fra
     x : Exchanged q.command limits from.channel.listener from.channel.link from.progress next to.channel.listener to.channel.link to.progress
     x = q.exchanged
 
-    ans : Answered first last q.command to.channel.listener w v q.exchanged.outcome
+    ans : Answered first last q.command to.channel.listener w v q.exchanged.conclusion
     ans =
         answered first last undisturbed laws q.command q.exchanged.once limits some from.channel.listener to.channel.listener from.channel.link to.channel.link w v e
-        q.exchanged.outcome from_is to_is last_is settled q.exchanged.asks
+        q.exchanged.conclusion from_is to_is last_is settled q.exchanged.asks
 
     took : Took q.command to.channel.listener ans.said from.progress q.exchanged.mid
-    took = subst (λ (o : Outcome Said). TookBy q.command to.channel.listener o from.progress q.exchanged.mid) ans.is q.exchanged.took
+    took = subst (λ (o : Conclusion Said). TookBy q.command to.channel.listener o from.progress q.exchanged.mid) ans.is q.exchanged.took
 
     -- the reply that was taken is the one that was sent
     resp_is : took.reply.resp ≡ 0
@@ -232,7 +232,7 @@ module _ (first last : World) (undisturbed : Undisturbed first last) (laws : Fra
           said = ans.said;
           complete = sym took.resp ∙ resp_is;
           more = took.more;
-          comes = subst (λ (o : Outcome Said). Comes limits.budget q.exchanged.mid o next to.progress) ans.is q.exchanged.comes;
+          comes = subst (λ (o : Conclusion Said). Comes limits.budget q.exchanged.mid o next to.progress) ans.is q.exchanged.comes;
           mid_is = mid_taken;
           at_mid =
               subst (λ (p : Progress). IsAt p (learned layout now took.reply.fragments)) (sym mid_taken)
@@ -288,13 +288,13 @@ module _ (first last : World) (undisturbed : Undisturbed first last) (laws : Fra
           let all : length (partial_bytes now_step.mid) ≡ length now_step.mid.joined = rw partial refl in
           omega (arith, now_step.partial_some partial, all, ap (λ (l : List ℕ). length l) now_step.at_mid.partial)
 
-      goes_on : (more : Bool) → ends.WasAnswered (outcome.Answer now_step.said) more → ends.GoesOn now_step.mid more → truth.GoesOn layout here.now now_step.a.reply
+      goes_on : (more : Bool) → ends.WasAnswered (conclusion.Answer now_step.said) more → ends.GoesOn now_step.mid more → truth.GoesOn layout here.now now_step.a.reply
       goes_on more answered goes =
           subst (λ (r : SeenReply). truth.GoesOn layout here.now r) (sym now_step.reply_is)
           (⊎_elim (λ is. inl (now_step.more ∙ said_more now_step.said more answered ∙ is)) (λ partial. inr (partial_known partial)) goes)
 
       -- the table goes on after the answer
-      further : (more : Bool) → ends.WasAnswered (outcome.Answer now_step.said) more → ends.GoesOn now_step.mid more
+      further : (more : Bool) → ends.WasAnswered (conclusion.Answer now_step.said) more → ends.GoesOn now_step.mid more
           → GoesThrough layout (history last (key_of plan held)) first_stage start (suc n) now_step.a.answer.stage (next_known layout here.now now_step.reply.fragments)
       further more answered goes =
           subst (λ (r : SeenReply). GoesThrough layout (history last (key_of plan held)) first_stage start (suc n) now_step.a.answer.stage (next_known layout here.now r.fragments)) now_step.reply_is
@@ -350,7 +350,7 @@ module _ (first last : World) (undisturbed : Undisturbed first last) (laws : Fra
           st : Step here.now here.stage from to (next.Ends end) v
           st = now_step n from to (next.Ends end) w v e here q from_is to_is last_is
 
-          by : (which : End) → ends.EndsAs limits.budget st.mid (outcome.Answer st.said) which → IsDoneAt (suc n) which to v
+          by : (which : End) → ends.EndsAs limits.budget st.mid (conclusion.Answer st.said) which → IsDoneAt (suc n) which to v
           by Done (answered, closed) =
               let over : Ends layout here.now st.a.reply = subst (λ (r : SeenReply). Ends layout here.now r) (sym st.reply_is) (record {
                 no_more = st.more ∙ said_more st.said false answered;

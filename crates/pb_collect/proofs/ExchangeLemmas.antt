@@ -12,8 +12,8 @@ use Rattle.pb_archive.specs.Opened.{OpenArchive, IsOpen}
 use Rattle.pb_trans.specs.declared.asked.Limits.{Limits}
 use Rattle.pb_bmp5.specs.declared.message.Mode.{Mode}
 use Rattle.pb_ask.specs.Listening.{Listening}
-use Rattle.pb_ask.specs.declared.question.Outcome.{Outcome}
-use Rattle.pb_ask.specs.declared.question.Outcome.TheVariants.{Answer, Undelivered, NoAnswer, Flooded}
+use Rattle.pb_ask.specs.declared.question.Conclusion.{Conclusion}
+use Rattle.pb_ask.specs.declared.question.Conclusion.TheVariants.{Answer, Undelivered, NoAnswer, Flooded}
 use Rattle.pb_truth.specs.Honest.{Honest}
 use Rattle.pb_truth.specs.Pairs.{AreGood}
 use Rattle.pb_collect.specs.Commands.{IsCommandOf}
@@ -43,8 +43,8 @@ module _ (o : OpenArchive) (old mid : View) (id : ℕ) (p : Progress) (c : Colle
   honest_mid : HonestFrom old mid → (w : World) (image : List ℕ) (a : Archive) → mid.link.world ≡ Some w → mid.image image → HasArchive image a → Honest w a
   honest_mid honest w image a world is has = honest w image a world (reads.fewer image is) has
 
-  -- what the outcome teaches is true
-  pub teaches : (outcome : Outcome Said) → HeardBy c outcome l mid.link → KnowsTrue old id (partial_bytes p) [] → AreGood old → AreGood mid → HonestFrom old mid → TeachesTrue c l mid id p outcome
+  -- what the conclusion teaches is true
+  pub teaches : (conclusion : Conclusion Said) → HeardBy c conclusion l mid.link → KnowsTrue old id (partial_bytes p) [] → AreGood old → AreGood mid → HonestFrom old mid → TeachesTrue c l mid id p conclusion
   teaches (Answer said) heard knows good_old good honest = λ served reply reads_now complete fits.
       knows_heard o mid id p (open_beside o old mid reads opened) ready c of ends said l reply good (honest_mid honest)
       (knows_grown old mid id (partial_bytes p) [] keeps.grows reads.fewer knows) heard reads_now complete fits
@@ -52,18 +52,18 @@ module _ (o : OpenArchive) (old mid : View) (id : ℕ) (p : Progress) (c : Colle
   teaches NoAnswer heard knows good_old good honest = tt
   teaches Flooded heard knows good_old good honest = tt
 
-  pub keeps_exchange : (new : View) (outcome : Outcome Said) → IsLawful mid → HeardBy c outcome l mid.link → KeepsWhere (TeachesTrue c l mid id p outcome) mid new → KeepsHonest (KnowsTrue old id (partial_bytes p) []) old new
-  keeps_exchange new outcome lawful heard settled =
+  pub keeps_exchange : (new : View) (conclusion : Conclusion Said) → IsLawful mid → HeardBy c conclusion l mid.link → KeepsWhere (TeachesTrue c l mid id p conclusion) mid new → KeepsHonest (KnowsTrue old id (partial_bytes p) []) old new
+  keeps_exchange new conclusion lawful heard settled =
       let P = KnowsTrue old id (partial_bytes p) [] in
-      honest_where P (TeachesTrue c l mid id p outcome) old mid new lawful (honest_keeps P old mid keeps) (λ knows good_old good honest. teaches outcome heard knows good_old good honest) settled
+      honest_where P (TeachesTrue c l mid id p conclusion) old mid new lawful (honest_keeps P old mid keeps) (λ knows good_old good honest. teaches conclusion heard knows good_old good honest) settled
 
-  pub knows_exchange : (new : View) (q : Progress) (outcome : Outcome Said) → HeardBy c outcome l mid.link → KeepsWhere (TeachesTrue c l mid id p outcome) mid new
-      → (TeachesTrue c l mid id p outcome → KnowsTrue mid id (partial_bytes p) [] → KnowsTrue new id (partial_bytes q) [])
+  pub knows_exchange : (new : View) (q : Progress) (conclusion : Conclusion Said) → HeardBy c conclusion l mid.link → KeepsWhere (TeachesTrue c l mid id p conclusion) mid new
+      → (TeachesTrue c l mid id p conclusion → KnowsTrue mid id (partial_bytes p) [] → KnowsTrue new id (partial_bytes q) [])
       → KnowsTrue old id (partial_bytes p) [] → AreGood old → HonestFrom old new → KnowsTrue new id (partial_bytes q) []
-  knows_exchange new q outcome heard settled later knows good honest =
+  knows_exchange new q conclusion heard settled later knows good honest =
       let honest_before = honest_first old mid new settled.grows honest in
       let first = keeps.good good honest_before in
-      later (teaches outcome heard knows good first.here honest_before) (knows_grown old mid id (partial_bytes p) [] keeps.grows reads.fewer knows)
+      later (teaches conclusion heard knows good first.here honest_before) (knows_grown old mid id (partial_bytes p) [] keeps.grows reads.fewer knows)
 
 -- ---- what an answer and what comes next leave of how far a table came
 
@@ -88,7 +88,7 @@ took_at c l said p mid (suc n) is took =
     let same = took.refused (λ none. absurd (omega (arith, is, none))) in
     (ap (λ (x : Progress). x.asked) same, ap (λ (x : Progress). x.layout) same)
 
-pub took_same : (c : CollectCommand) (l : Listening) (outcome : Outcome Said) (p mid : Progress) → TookBy c l outcome p mid → (mid.asked ≡ p.asked) × (mid.layout ≡ p.layout)
+pub took_same : (c : CollectCommand) (l : Listening) (conclusion : Conclusion Said) (p mid : Progress) → TookBy c l conclusion p mid → (mid.asked ≡ p.asked) × (mid.layout ≡ p.layout)
 took_same c l (Answer said) p mid took = took_at c l said p mid said.resp refl took
 took_same c l (Undelivered code) p mid same = (ap (λ (x : Progress). x.asked) same, ap (λ (x : Progress). x.layout) same)
 took_same c l NoAnswer p mid same = (ap (λ (x : Progress). x.asked) same, ap (λ (x : Progress). x.layout) same)
@@ -107,15 +107,15 @@ stays_next : (b : Bool) (p : Progress) → Stays p (asked_once_more (if b then p
 stays_next true p = record { front = refl; layout = refl; bytes = inl refl }
 stays_next false p = record { front = refl; layout = refl; bytes = inr refl }
 
-comes_stays : (budget : ℕ) (p : Progress) (o : Outcome Said) (next : Next) (q : Progress) → Comes budget p o next q → Stays p q
+comes_stays : (budget : ℕ) (p : Progress) (o : Conclusion Said) (next : Next) (q : Progress) → Comes budget p o next q → Stays p q
 comes_stays budget p o (Ask mode) q comes = subst (λ (x : Progress). Stays p x) (sym comes.4) (stays_next (has_part p) p)
 comes_stays budget p o Stop q comes = subst (λ (x : Progress). Stays p x) (sym comes.1) (record { front = refl; layout = refl; bytes = inl refl })
 comes_stays budget p o (Ends end) q comes = subst (λ (x : Progress). Stays p x) (sym comes.1) (record { front = refl; layout = refl; bytes = inl refl })
 
-pub comes_layout : (budget : ℕ) (p : Progress) (o : Outcome Said) (next : Next) (q : Progress) → Comes budget p o next q → q.layout ≡ p.layout
+pub comes_layout : (budget : ℕ) (p : Progress) (o : Conclusion Said) (next : Next) (q : Progress) → Comes budget p o next q → q.layout ≡ p.layout
 comes_layout budget p o next q comes = (comes_stays budget p o next q comes).layout
 
-pub ready_comes : (archive : OpenArchive) (id budget : ℕ) (p : Progress) (o : Outcome Said) (next : Next) (q : Progress) → IsReady archive id p → Comes budget p o next q → IsReady archive id q
+pub ready_comes : (archive : OpenArchive) (id budget : ℕ) (p : Progress) (o : Conclusion Said) (next : Next) (q : Progress) → IsReady archive id p → Comes budget p o next q → IsReady archive id q
 ready_comes archive id budget p o next q ready comes =
     let stays = comes_stays budget p o next q comes in
     record {
@@ -131,7 +131,7 @@ ready_comes archive id budget p o next q ready comes =
 pub knows_closed : (now : View) (id : ℕ) (partial : List ℕ) → KnowsTrue now id partial [] → KnowsTrue now id [] []
 knows_closed now id partial knows w image a t world is has at = record { table = (knows w image a t world is has at).table; partial = λ some. absurd (omega (arith, some)) }
 
-pub knows_comes : (now : View) (id budget : ℕ) (p : Progress) (o : Outcome Said) (next : Next) (q : Progress) → Comes budget p o next q → KnowsTrue now id (partial_bytes p) [] → KnowsTrue now id (partial_bytes q) []
+pub knows_comes : (now : View) (id budget : ℕ) (p : Progress) (o : Conclusion Said) (next : Next) (q : Progress) → Comes budget p o next q → KnowsTrue now id (partial_bytes p) [] → KnowsTrue now id (partial_bytes q) []
 knows_comes now id budget p o next q comes knows =
     ⊎_elim (λ same. subst (λ b. KnowsTrue now id b []) (sym same) knows) (λ none. subst (λ b. KnowsTrue now id b []) (sym none) (knows_closed now id (partial_bytes p) knows))
     (comes_stays budget p o next q comes).bytes
@@ -150,15 +150,15 @@ closed_bytes p q is closed = ap (λ (x : Progress). partial_bytes x) is ∙ rw c
 
 module _ (c : CollectCommand) (limits : Limits) (l_old : Listening) (k_old : Link) (p : Progress) (next : Next) (l_new : Listening) (k_new : Link) (q : Progress) (e : Exchanged c limits l_old k_old p next l_new k_new q) where
   pub exchanged_layout : q.layout ≡ p.layout
-  exchanged_layout = comes_layout limits.budget e.mid e.outcome next q e.comes ∙ (took_same c l_new e.outcome p e.mid e.took).1
+  exchanged_layout = comes_layout limits.budget e.mid e.conclusion next q e.comes ∙ (took_same c l_new e.conclusion p e.mid e.took).1
 
   pub asks_next : (mode : Mode) → next ≡ Ask mode → (mode ≡ question q) × (q.asked ≡ p.asked + 1) × (p.asked < limits.budget)
   asks_next mode is =
-      let comes = subst (λ (n : Next). Comes limits.budget e.mid e.outcome n q) is e.comes in
-      let same = (took_same c l_new e.outcome p e.mid e.took).0 in
+      let comes = subst (λ (n : Next). Comes limits.budget e.mid e.conclusion n q) is e.comes in
+      let same = (took_same c l_new e.conclusion p e.mid e.took).0 in
       (comes.5, ap (λ (x : Progress). x.asked) comes.4 ∙ kept_asked (has_part e.mid) e.mid ∙ ap (λ n. n + 1) same, omega (arith, comes.3, same))
 
   pub ends_same : (end : End) → next ≡ Ends end → q.asked ≡ p.asked
   ends_same end is =
-      let comes = subst (λ (n : Next). Comes limits.budget e.mid e.outcome n q) is e.comes in
-      ap (λ (x : Progress). x.asked) comes.1 ∙ (took_same c l_new e.outcome p e.mid e.took).0
+      let comes = subst (λ (n : Next). Comes limits.budget e.mid e.conclusion n q) is e.comes in
+      ap (λ (x : Progress). x.asked) comes.1 ∙ (took_same c l_new e.conclusion p e.mid e.took).0

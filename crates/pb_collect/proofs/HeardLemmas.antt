@@ -17,14 +17,14 @@ use Rattle.pb_ask.specs.Listening.{Listening, IsListening}
 use Rattle.pb_ask.specs.Wanted.{EndsBy}
 use Rattle.pb_ask.proofs.ListenLemmas.{asks_judged, asks_held, asks_listening}
 use Rattle.pb_ask.specs.declared.question.Ended.TheVariants as ended
-use Rattle.pb_ask.specs.declared.question.Outcome.{Outcome}
-use Rattle.pb_ask.specs.declared.question.Outcome.TheVariants.{Answer, Undelivered, NoAnswer, Flooded}
+use Rattle.pb_ask.specs.declared.question.Conclusion.{Conclusion}
+use Rattle.pb_ask.specs.declared.question.Conclusion.TheVariants.{Answer, Undelivered, NoAnswer, Flooded}
 use Rattle.pb_truth.specs.Asked.{WasAsked, IsIn, Allows}
 use Rattle.pb_truth.specs.Honest.{delivered}
 use Rattle.pb_truth.specs.Pairs.{AsksAllowed}
 use Rattle.pb_truth.proofs.ViewLemmas.{good_asks}
 use Rattle.pb_collect.specs.Heard.{Listens, IsAllowedIn, HasHeard, HeardBy}
-use Rattle.pb_collect.specs.Kept.{GoesOnFrom, Keeps}
+use Rattle.pb_collect.specs.Kept.{GoesOnBy, Keeps, StaysOrCollects}
 use Rattle.pb_collect.specs.Question.{AsksOnce, MeansReply, command_frame, command_request, wanted_reply}
 use Rattle.pb_collect.specs.declared.answer.Said.{Said}
 use Rattle.pb_collect.specs.declared.question.CollectCommand.{CollectCommand}
@@ -40,7 +40,7 @@ asked_is c more r once all asked =
 pub keeps_asked : (c : CollectCommand) (most : ℕ) (old new : View) → IsLawful new → AsksOnce c → IsAllowedIn old c → Passes (command_frame c) most old new → Keeps old new
 keeps_asked c most old new lawful once allowed passes = record {
   grows = grows_by old.link.world new.link.world passes.events passes.grows;
-  leaves = LeavesOnly-weaker old new (Resending (command_frame c) most old) (GoesOnFrom old) passes.leaves (λ w image r. record {
+  leaves = LeavesOnly-weaker old new (Resending (command_frame c) most old) (GoesOnBy StaysOrCollects old) passes.leaves (λ w image r. record {
     first = image;
     was = r.image;
     goes_on = inl (inl refl);
@@ -105,16 +105,16 @@ module _ (c : CollectCommand) (old new : Listening) (a b : Link) where
             };
       }
 
--- ---- by the outcome of a request
+-- ---- by the conclusion of a request
 
 module _ (c : CollectCommand) (limits : Limits) (old new : Listening) (a b : Link) where
-  pub asks_on : (outcome : Outcome Said) → Asks (wanted_reply c) limits old a outcome new b → Listens old a → Listens new b
-  asks_on outcome h l =
-      let all = (asks_judged (wanted_reply c) limits old new a b outcome h).0 in
+  pub asks_on : (conclusion : Conclusion Said) → Asks (wanted_reply c) limits old a conclusion new b → Listens old a → Listens new b
+  asks_on conclusion h l =
+      let all = (asks_judged (wanted_reply c) limits old new a b conclusion h).0 in
       listens_after c old new a b (h.before ++ (Sent (command_frame c) ∷ h.last.heard)) all l
-      (asks_listening (wanted_reply c) limits old new a b outcome h all l.judged l.hears)
+      (asks_listening (wanted_reply c) limits old new a b conclusion h all l.judged l.hears)
 
-  pub heard_by : (outcome : Outcome Said) → Asks (wanted_reply c) limits old a outcome new b → Listens old a → HeardBy c outcome new b
+  pub heard_by : (conclusion : Conclusion Said) → Asks (wanted_reply c) limits old a conclusion new b → Listens old a → HeardBy c conclusion new b
   heard_by (Answer said) h l =
       let all = asks_held (wanted_reply c) limits old new a b said h in
       heard_answer c old new a b said (h.before ++ (Sent (command_frame c) ∷ h.last.heard)) all.0 l

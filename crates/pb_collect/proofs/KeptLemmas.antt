@@ -28,7 +28,7 @@ use Rattle.pb_truth.specs.Learning.{Known, without_partial, SoundKnown, taken, l
 use Rattle.pb_truth.specs.Pairs.{AreGood, StaysTrueIn}
 use Rattle.pb_truth.proofs.GrowthLemmas.{honest_prefix, known_later}
 use Rattle.pb_truth.proofs.ViewLemmas.{good_start, good_then, good_writes}
-use Rattle.pb_collect.specs.Kept.{AllGoOnFrom, StaysOrCollects, GoesOnFrom, Grows, HonestFrom, KeepsWhere, Keeps, KeepsHonest, KnowsTrue}
+use Rattle.pb_collect.specs.Kept.{AllGoOnBy, GoesOnBy, Grows, HonestFrom, Keeps, KeepsBy, KeepsHonest, KeepsWhere, KnowsTrue, StaysOrCollects, Step}
 
 -- ---- one archive in a file
 
@@ -56,11 +56,11 @@ has_after x y a (inr same) has = record { bodies = same.0; entries = same.2; arc
 
 -- ---- archives go on
 
-pub stays_trans : (x y z : List ℕ) → StaysOrCollects x y → StaysOrCollects y z → StaysOrCollects x z
-stays_trans x y z (inl p) (inl q) = inl (keeps_list x y z p q)
-stays_trans x y z (inl p) (inr q) = inr (record { one = q.one; other = q.other; before = has_before x y q.one p q.before; after = q.after; extends = q.extends; tables = q.tables })
-stays_trans x y z (inr p) (inl q) = inr (record { one = p.one; other = p.other; before = p.before; after = has_after y z p.other q p.after; extends = p.extends; tables = p.tables })
-stays_trans x y z (inr p) (inr q) =
+pub collects_trans : (x y z : List ℕ) → StaysOrCollects x y → StaysOrCollects y z → StaysOrCollects x z
+collects_trans x y z (inl p) (inl q) = inl (keeps_list x y z p q)
+collects_trans x y z (inl p) (inr q) = inr (record { one = q.one; other = q.other; before = has_before x y q.one p q.before; after = q.after; extends = q.extends; tables = q.tables })
+collects_trans x y z (inr p) (inl q) = inr (record { one = p.one; other = p.other; before = p.before; after = has_after y z p.other q p.after; extends = p.extends; tables = p.tables })
+collects_trans x y z (inr p) (inr q) =
     let same = same_archive y p.other q.one p.after q.before in
     inr (record {
       one = p.one;
@@ -70,6 +70,9 @@ stays_trans x y z (inr p) (inr q) =
       extends = Extends-trans p.one p.other q.other p.extends (subst (λ a. Extends a q.other) (sym same) q.extends);
       tables = q.tables ∙ ap (λ (a : Archive). length a.tables) (sym same) ∙ p.tables;
     })
+
+pub collects_kept : (x y : List ℕ) → KeepsEntries x y → StaysOrCollects x y
+collects_kept x y kept = inl kept
 
 -- ---- worlds
 
@@ -100,6 +103,94 @@ grows_trans a b c p q = record {
       (x.0, x.1 ++ y.1, x.2, y.3 ∙ ap (λ l. l ++ y.1) x.3 ∙ append_assoc x.0 x.1 y.1);
 }
 
+-- ---- calls go on by a step
+
+abbrev pub KeptIn : Step → Type 0
+KeptIn S = (x y : List ℕ) → KeepsEntries x y → S x y
+
+abbrev pub Transitive : Step → Type 0
+Transitive S = (x y z : List ℕ) → S x y → S y z → S x z
+
+-- what a crash leaves now goes on from what it left then
+pub now_from : (S : Step) (old new : View) → IsLawful new → LeavesOnly old new (GoesOnBy S old) → (w : World) (image : List ℕ) → new.link.world ≡ Some w → new.image image → GoesOnBy S old w image
+now_from S old new lawful leaves w image world is = leaves.each w image (lawful.counts_now old.moment w image leaves.later world is)
+
+from_trans : (S : Step) → Transitive S → (a b : View) → IsLawful b → LeavesOnly a b (GoesOnBy S a) → (w : World) (image : List ℕ) → GoesOnBy S b w image → GoesOnBy S a w image
+from_trans S trans a b lawful leaves w image q =
+    let p = now_from S a b lawful leaves q.before q.first q.known q.was in
+    record {
+      first = p.first;
+      was = p.was;
+      goes_on = trans p.first q.first image p.goes_on q.goes_on;
+      before = p.before;
+      more = p.more ++ q.more;
+      known = p.known;
+      is = q.is ∙ ap (λ l. l ++ q.more) p.is ∙ append_assoc p.before p.more q.more;
+    }
+
+-- a file of before in the world of then
+pub from_left : (S T : Step) (old : View) (w : World) (image : List ℕ) → ((first : List ℕ) → S first image → T first image) → LeftBy S old w image → GoesOnBy T old w image
+from_left S T old w image step left = record {
+  first = left.1.0;
+  was = left.1.1;
+  goes_on = step left.1.0 left.1.2;
+  before = w;
+  more = [];
+  known = left.0;
+  is = sym (append-nil w);
+}
+
+pub by_none : (S : Step) → KeptIn S → (P : Type 0) (d : View) → IsLawful d → KeepsBy S P d d
+by_none S kept P d lawful = record {
+  grows = grows_same d.link.world;
+  leaves = started d (GoesOnBy S d) lawful (λ w image world is. record {
+    first = image;
+    was = is;
+    goes_on = kept image image (inl refl);
+    before = w;
+    more = [];
+    known = world;
+    is = sym (append-nil w);
+  });
+  good = λ good p. good_start d lawful good;
+}
+
+pub by_trans : (S : Step) → Transitive S → (P Q R : Type 0) (a b c : View) → IsLawful b → (p : KeepsBy S P a b) → KeepsBy S Q b c
+    → (AreGood a → R → P) → (AreGood a → AreGood b → R → Q) → KeepsBy S R a c
+by_trans S trans P Q R a b c lawful p q first second = record {
+  grows = grows_trans a.link.world b.link.world c.link.world p.grows q.grows;
+  leaves = LeavesOnly-trans a b c (GoesOnBy S a) (GoesOnBy S b) (GoesOnBy S a) p.leaves q.leaves (λ w image from. from) (λ w image from. from_trans S trans a b lawful p.leaves w image from);
+  good = λ good r.
+      let middle = p.good good (first good r) in
+      good_then a b c middle (q.good middle.here (second good middle.here r));
+}
+
+pub by_weaker : (S : Step) (P Q : Type 0) (a b : View) → (AreGood a → P → Q) → KeepsBy S Q a b → KeepsBy S P a b
+by_weaker S P Q a b so q = record { grows = q.grows; leaves = q.leaves; good = λ good p. q.good good (so good p) }
+
+-- an opening leaves the entries as they are
+pub by_opened : (S : Step) → KeptIn S → (P : Type 0) (old new : View) → IsLawful new → Leaves KeepsEntries old new → new.link ≡ old.link → KeepsBy S P old new
+by_opened S kept P old new lawful leaves link =
+    let goods : AreGood old → (w : World) (image : List ℕ) → LeftBy KeepsEntries old w image → Good w image = λ good w image left.
+    let first = good w left.1.0 left.0 left.1.1 in
+    record { archive = first.archive; has = has_after left.1.0 image first.archive left.1.2 first.has; sound = first.sound; asked = first.asked } in
+    record {
+      grows = grows_link old.link new.link link;
+      leaves = LeavesOnly-weaker old new (LeftBy KeepsEntries old) (GoesOnBy S old) leaves (λ w image left. from_left KeepsEntries S old w image (λ first. kept first image) left);
+      good = λ good p. record {
+        leaves = LeavesOnly-weaker old new (LeftBy KeepsEntries old) Good leaves (goods good);
+        here = λ w image world is. goods good w image (leaves.each w image (lawful.counts_now old.moment w image leaves.later world is));
+      };
+    }
+
+-- once an archive is opened, whatever a crash leaves goes on from the file as it read before
+pub all_go_on : (S : Step) → KeptIn S → Transitive S → (file : Option (List ℕ)) (mid new : View) → IsLawful new → Changes SameEntries file mid.file → IsSettled mid → LeavesOnly mid new (GoesOnBy S mid) → AllGoOnBy S file new
+all_go_on S kept trans file mid new lawful same settled leaves w image first world is was =
+    let from = now_from S mid new lawful leaves w image world is in
+    let g = same.on first was in
+    let one : g.0 ≡ from.first = same_Some g.0 from.first (sym g.1 ∙ settled from.first from.was) in
+    trans first from.first image (kept first from.first (inr (subst (λ f. SameEntries first f) one g.2))) from.goes_on
+
 -- ---- honest worlds
 
 -- each table of the longer list is one of the other's places
@@ -128,10 +219,6 @@ honest_file w x y b (inl kept) has honest = honest b (has_before x y b kept has)
 honest_file w x y b (inr c) has honest =
     subst (λ z. Honest w z) (same_archive y c.other b c.after has) (honest_on w c.one c.other c.extends c.tables (honest c.one c.before))
 
--- what a crash leaves now goes on from what it left then
-pub now_from : (old new : View) → IsLawful new → LeavesOnly old new (GoesOnFrom old) → (w : World) (image : List ℕ) → new.link.world ≡ Some w → new.image image → GoesOnFrom old w image
-now_from old new lawful leaves w image world is = leaves.each w image (lawful.counts_now old.moment w image leaves.later world is)
-
 -- honest then for what was left first
 pub honest_first : (a b c : View) → Grows b.link.world c.link.world → HonestFrom a c → HonestFrom a b
 honest_first a b c grows honest w image x world is has =
@@ -139,97 +226,57 @@ honest_first a b c grows honest w image x world is has =
     honest_prefix w g.0 x (honest (w ++ g.0) image x g.1 is has)
 
 -- honest now for what was left meanwhile
-pub honest_then : (a b c : View) → IsLawful b → Grows b.link.world c.link.world → LeavesOnly a b (GoesOnFrom a) → HonestFrom a c → HonestFrom b c
+pub honest_then : (a b c : View) → IsLawful b → Grows b.link.world c.link.world → LeavesOnly a b (GoesOnBy StaysOrCollects a) → HonestFrom a c → HonestFrom b c
 honest_then a b c lawful grows leaves honest w image x world is has =
     let g = grows.back w world in
-    let from = now_from a b lawful leaves g.0 image g.2 is in
+    let from = now_from StaysOrCollects a b lawful leaves g.0 image g.2 is in
     honest_file w from.first image x from.goes_on has (λ y first. honest w from.first y world from.was first)
 
--- ---- runs of calls
-
-from_trans : (a b : View) → IsLawful b → LeavesOnly a b (GoesOnFrom a) → (w : World) (image : List ℕ) → GoesOnFrom b w image → GoesOnFrom a w image
-from_trans a b lawful leaves w image q =
-    let p = now_from a b lawful leaves q.before q.first q.known q.was in
-    record {
-      first = p.first;
-      was = p.was;
-      goes_on = stays_trans p.first q.first image p.goes_on q.goes_on;
-      before = p.before;
-      more = p.more ++ q.more;
-      known = p.known;
-      is = q.is ∙ ap (λ l. l ++ q.more) p.is ∙ append_assoc p.before p.more q.more;
-    }
-
-leaves_trans : (a b c : View) → IsLawful b → LeavesOnly a b (GoesOnFrom a) → LeavesOnly b c (GoesOnFrom b) → LeavesOnly a c (GoesOnFrom a)
-leaves_trans a b c lawful p q =
-    LeavesOnly-trans a b c (GoesOnFrom a) (GoesOnFrom b) (GoesOnFrom a) p q (λ w image from. from) (λ w image from. from_trans a b lawful p w image from)
-
-leaves_same : (d : View) → IsLawful d → LeavesOnly d d (GoesOnFrom d)
-leaves_same d lawful = started d (GoesOnFrom d) lawful (λ w image world is. record {
-  first = image;
-  was = is;
-  goes_on = inl (inl refl);
-  before = w;
-  more = [];
-  known = world;
-  is = sym (append-nil w);
-})
+-- ---- runs of calls that collect
 
 pub where_none : (P : Type 0) (d : View) → IsLawful d → KeepsWhere P d d
-where_none P d lawful = record { grows = grows_same d.link.world; leaves = leaves_same d lawful; good = λ p good. good_start d lawful good }
+where_none = by_none StaysOrCollects collects_kept
 
 pub where_trans : (P Q : Type 0) (a b c : View) → IsLawful b → (P → Q) → KeepsWhere P a b → KeepsWhere Q b c → KeepsWhere P a c
-where_trans P Q a b c lawful so p q = record {
-  grows = grows_trans a.link.world b.link.world c.link.world p.grows q.grows;
-  leaves = leaves_trans a b c lawful p.leaves q.leaves;
-  good = λ is good. let first = p.good is good in good_then a b c first (q.good (so is) first.here);
-}
+where_trans P Q a b c lawful so p q = by_trans StaysOrCollects collects_trans P Q P a b c lawful p q (λ good is. is) (λ good after is. so is)
 
 pub where_weaker : (P Q : Type 0) (a b : View) → (P → Q) → KeepsWhere Q a b → KeepsWhere P a b
-where_weaker P Q a b so q = record { grows = q.grows; leaves = q.leaves; good = λ p good. q.good (so p) good }
+where_weaker P Q a b so q = by_weaker StaysOrCollects P Q a b (λ good. so) q
 
 pub keeps_none : (d : View) → IsLawful d → Keeps d d
-keeps_none d lawful = record { grows = grows_same d.link.world; leaves = leaves_same d lawful; good = λ good honest. good_start d lawful good }
+keeps_none d lawful = by_none StaysOrCollects collects_kept (HonestFrom d d) d lawful
 
 pub keeps_by : (P : Type 0) (a b : View) → (AreGood a → HonestFrom a b → P) → KeepsWhere P a b → Keeps a b
-keeps_by P a b so q = record { grows = q.grows; leaves = q.leaves; good = λ good honest. q.good (so good honest) good }
+keeps_by P a b so q = by_weaker StaysOrCollects (HonestFrom a b) P a b so q
 
 pub keeps_trans : (a b c : View) → IsLawful b → Keeps a b → Keeps b c → Keeps a c
-keeps_trans a b c lawful p q = record {
-  grows = grows_trans a.link.world b.link.world c.link.world p.grows q.grows;
-  leaves = leaves_trans a b c lawful p.leaves q.leaves;
-  good = λ good honest.
-      let first = p.good good (honest_first a b c q.grows honest) in
-      good_then a b c first (q.good first.here (honest_then a b c lawful q.grows p.leaves honest));
-}
+keeps_trans a b c lawful p q =
+    by_trans StaysOrCollects collects_trans (HonestFrom a b) (HonestFrom b c) (HonestFrom a c) a b c lawful p q (λ good. honest_first a b c q.grows)
+    (λ good after. honest_then a b c lawful q.grows p.leaves)
+
+pub keeps_opened : (old new : View) → IsLawful new → Leaves KeepsEntries old new → new.link ≡ old.link → Keeps old new
+keeps_opened old new = by_opened StaysOrCollects collects_kept (HonestFrom old new) old new
+
+pub all_collect_on : (file : Option (List ℕ)) (mid new : View) → IsLawful new → Changes SameEntries file mid.file → IsSettled mid → Keeps mid new → AllGoOnBy StaysOrCollects file new
+all_collect_on file mid new lawful same settled keeps = all_go_on StaysOrCollects collects_kept collects_trans file mid new lawful same settled keeps.leaves
 
 -- ---- runs of calls in an honest world
 
 pub honest_weaker : (P : Type 0) (a b : View) → KeepsHonest P a b → (AreGood a → HonestFrom a b → P) → Keeps a b
-honest_weaker P a b q so = record { grows = q.grows; leaves = q.leaves; good = λ good honest. q.good (so good honest) good honest }
+honest_weaker P a b q so = by_weaker StaysOrCollects (HonestFrom a b) (P × HonestFrom a b) a b (λ good honest. (so good honest, honest)) q
 
 pub honest_keeps : (P : Type 0) (a b : View) → Keeps a b → KeepsHonest P a b
-honest_keeps P a b q = record { grows = q.grows; leaves = q.leaves; good = λ p good honest. q.good good honest }
+honest_keeps P a b q = by_weaker StaysOrCollects (P × HonestFrom a b) (HonestFrom a b) a b (λ good is. is.1) q
 
 pub honest_where : (P Q : Type 0) (a b c : View) → IsLawful b → KeepsHonest P a b → (P → AreGood a → AreGood b → HonestFrom a b → Q) → KeepsWhere Q b c → KeepsHonest P a c
-honest_where P Q a b c lawful p so q = record {
-  grows = grows_trans a.link.world b.link.world c.link.world p.grows q.grows;
-  leaves = leaves_trans a b c lawful p.leaves q.leaves;
-  good = λ is good honest.
-      let honest_b = honest_first a b c q.grows honest in
-      let first = p.good is good honest_b in
-      good_then a b c first (q.good (so is good first.here honest_b) first.here);
-}
+honest_where P Q a b c lawful p so q =
+    by_trans StaysOrCollects collects_trans (P × HonestFrom a b) Q (P × HonestFrom a c) a b c lawful p q (λ good is. (is.0, honest_first a b c q.grows is.1))
+    (λ good after is. so is.0 good after (honest_first a b c q.grows is.1))
 
 pub honest_then_honest : (P Q : Type 0) (a b c : View) → IsLawful b → KeepsHonest P a b → (P → AreGood a → AreGood b → HonestFrom a b → Q) → KeepsHonest Q b c → KeepsHonest P a c
-honest_then_honest P Q a b c lawful p so q = record {
-  grows = grows_trans a.link.world b.link.world c.link.world p.grows q.grows;
-  leaves = leaves_trans a b c lawful p.leaves q.leaves;
-  good = λ is good honest.
-      let honest_b = honest_first a b c q.grows honest in
-      let first = p.good is good honest_b in
-      good_then a b c first (q.good (so is good first.here honest_b) first.here (honest_then a b c lawful q.grows p.leaves honest));
-}
+honest_then_honest P Q a b c lawful p so q =
+    by_trans StaysOrCollects collects_trans (P × HonestFrom a b) (Q × HonestFrom b c) (P × HonestFrom a c) a b c lawful p q (λ good is. (is.0, honest_first a b c q.grows is.1))
+    (λ good after is. (so is.0 good after (honest_first a b c q.grows is.1), honest_then a b c lawful q.grows p.leaves is.1))
 
 -- ---- a writing call
 
@@ -266,50 +313,10 @@ step_collects change is x y (inr (inr made)) = inr (record {
 pub keeps_written : (P : Type 0) (change : Change) (old new : View) → IsOfTable change → IsLawful new → (P → StaysTrueIn old change) → Writes change old new → KeepsWhere P old new
 keeps_written P change old new is lawful stays writes = record {
   grows = grows_link old.link new.link writes.link;
-  leaves = LeavesOnly-weaker old new (LeftBy (KeepsOrMakes change) old) (GoesOnFrom old) writes.leaves (λ w image left. record {
-    first = left.1.0;
-    was = left.1.1;
-    goes_on = step_collects change is left.1.0 image left.1.2;
-    before = w;
-    more = [];
-    known = left.0;
-    is = sym (append-nil w);
-  });
-  good = λ p good. good_writes one_list one_archive (λ a c allowed. Extends-after a c allowed) change old new lawful good (stays p) writes;
+  leaves = LeavesOnly-weaker old new (LeftBy (KeepsOrMakes change) old) (GoesOnBy StaysOrCollects old) writes.leaves
+      (λ w image left. from_left (KeepsOrMakes change) StaysOrCollects old w image (λ first. step_collects change is first image) left);
+  good = λ good p. good_writes one_list one_archive (λ a c allowed. Extends-after a c allowed) change old new lawful good (stays p) writes;
 }
-
--- ---- an opening
-
--- it leaves the entries as they are
-pub keeps_opened : (old new : View) → IsLawful new → Leaves KeepsEntries old new → new.link ≡ old.link → Keeps old new
-keeps_opened old new lawful leaves link =
-    let goods : AreGood old → (w : World) (image : List ℕ) → LeftBy KeepsEntries old w image → Good w image = λ good w image left.
-    let first = good w left.1.0 left.0 left.1.1 in
-    record { archive = first.archive; has = has_after left.1.0 image first.archive left.1.2 first.has; sound = first.sound; asked = first.asked } in
-    record {
-      grows = grows_link old.link new.link link;
-      leaves = LeavesOnly-weaker old new (LeftBy KeepsEntries old) (GoesOnFrom old) leaves (λ w image left. record {
-        first = left.1.0;
-        was = left.1.1;
-        goes_on = inl left.1.2;
-        before = w;
-        more = [];
-        known = left.0;
-        is = sym (append-nil w);
-      });
-      good = λ good honest. record {
-        leaves = LeavesOnly-weaker old new (LeftBy KeepsEntries old) Good leaves (goods good);
-        here = λ w image world is. goods good w image (leaves.each w image (lawful.counts_now old.moment w image leaves.later world is));
-      };
-    }
-
--- once an archive is opened, whatever a crash leaves goes on from the file as it read before
-pub all_go_on : (file : Option (List ℕ)) (mid new : View) → IsLawful new → Changes SameEntries file mid.file → IsSettled mid → LeavesOnly mid new (GoesOnFrom mid) → AllGoOnFrom file new
-all_go_on file mid new lawful same settled leaves w image first world is was =
-    let from = now_from mid new lawful leaves w image world is in
-    let g = same.on first was in
-    let one : g.0 ≡ from.first = same_Some g.0 from.first (sym g.1 ∙ settled from.first from.was) in
-    stays_trans first from.first image (inl (inr (subst (λ f. SameEntries first f) one g.2))) from.goes_on
 
 -- ---- what is known of a table
 

@@ -1,5 +1,5 @@
 -- The requests of a table, one after the other.
-use Rattle.std.proofs.Common.{◌≡◌, ℕ, zero, suc, ◌<◌, List, [], ◌∷◌, length, Some, None, Ok, refl, arith, ap, subst, sym, ◌∙◌}
+use Rattle.std.proofs.Common.{◌≡◌, ℕ, zero, suc, ◌<◌, List, [], ◌∷◌, length, Some, None, Ok, false, refl, arith, ap, subst, sym, ◌∙◌}
 use Rattle.std.proofs.lemmas.Option.{same_Some, none-some}
 use Rattle.std.specs.Prelude.{slice_get}
 use Rattle.pb_base.specs.declared.layout.Layout.{Layout}
@@ -8,14 +8,16 @@ use Rattle.pb_journal.proofs.LawLemmas.{one_list}
 use Rattle.pb_archive.specs.Archive.{changed_at}
 use Rattle.pb_archive.specs.Entry.{Stopped}
 use Rattle.pb_archive.specs.Held.{Writes}
-use Rattle.pb_archive.specs.Opened.{OpenArchive, Register, register_after, ended}
+use Rattle.pb_archive.specs.Opened.{IsOpen, OpenArchive, Register, register_after, ended}
+use Rattle.pb_archive.specs.Refusals.{NeedsOpening}
 use Rattle.pb_archive.specs.declared.held.Held.{Held}
 use Rattle.pb_archive.specs.declared.table_view.Stop.{Stop}
 use Rattle.pb_archive.proofs.LeadsLemmas.{one_archive}
-use Rattle.pb_ask.specs.declared.question.Outcome.{Outcome}
+use Rattle.pb_ask.specs.declared.question.Conclusion.{Conclusion}
 use Rattle.pb_truth.specs.Pairs.{AreGood}
 use Rattle.pb_truth.proofs.PairLemmas.{good_of}
 use Rattle.pb_collect.specs.Ends.{EndsAs}
+use Rattle.pb_collect.specs.Exchanges.{Goes}
 use Rattle.pb_collect.specs.Progress.{Progress, begun}
 use Rattle.pb_collect.specs.Tables.{HasStopOf, IsStateOf}
 use Rattle.pb_collect.specs.Taking.{IsReady}
@@ -65,7 +67,7 @@ stop_there before after id stop x held changed is then =
     ap (λ (h : Held). h.stop) (get_changed (ended stop) before.tables id x held is (sym (ap (λ (r : Register). slice_get r.tables id) changed) ∙ then))
 
 -- what else ends a table leaves no stop
-pub stops_none : (budget : ℕ) (p : Progress) (o : Outcome Said) (end : End) (held : Held) → EndsAs budget p o end → held.stop ≡ None → HasStopOf end held
+pub stops_none : (budget : ℕ) (p : Progress) (o : Conclusion Said) (end : End) (held : Held) → EndsAs budget p o end → held.stop ≡ None → HasStopOf end held
 stops_none budget p o (Redefined old told) held ends none = absurd ends
 stops_none budget p o Done held ends none = none
 stops_none budget p o NoAnswer held ends none = none
@@ -88,3 +90,11 @@ ready_begun o id p q layout s below none state lay is =
     let x = get_there o.tables id below in
     let of = state x.0 x.1 in
     subst (λ (r : Progress). IsReady o id r) (sym is) (record { held = x.0; there = x.1; far = record { front = sym of.front; layout = lay x.0 x.1; going_on = sym of.stop ∙ none } })
+
+-- ---- archives that stay usable
+
+pub goes_start : (o : OpenArchive) (now : View) → NeedsOpening o false → IsOpen o now → Goes o now now
+goes_start o now usable opened = record { usable = usable; opened = opened; faults = refl; link_faults = refl }
+
+pub goes_trans : (o p : OpenArchive) (a b c : View) → Goes o a b → Goes p b c → Goes p a c
+goes_trans o p a b c x y = record { usable = y.usable; opened = y.opened; faults = y.faults ∙ x.faults; link_faults = y.link_faults ∙ x.link_faults }

@@ -18,7 +18,7 @@ use Rattle.pb_ask.specs.Listening.{Listening}
 use Rattle.pb_collect.specs.Changing.{ChangesOnly}
 use Rattle.pb_collect.specs.Exchanges.{RoseAlone}
 use Rattle.pb_collect.specs.Heard.{Listens}
-use Rattle.pb_collect.specs.Kept.{Collects, GoesOnFrom}
+use Rattle.pb_collect.specs.Kept.{Collects, GoesOnBy, StaysOrCollects}
 use Rattle.pb_collect.specs.Round.{AllCameOut, AllEnd, AreInOrder, Asks, AsksBy, ComesTo, CountsOf, EndsAt, FrontsStand, IsDone, Reaches}
 use Rattle.pb_collect.specs.declared.collector.RoundResult.{RoundResult}
 use Rattle.pb_collect.specs.declared.collector.RoundResult.TheVariants.{Done, Incomplete, DiskFault, LinkFault}
@@ -141,9 +141,9 @@ fronts_now os r o now few opened reaches w image a n x world is has at =
     let t = at_before held_of stands.archive.tables n after.0 (subst (λ (l : List Held). slice_get l n ≡ Some after.0) tables after.1) in
     (t.0, ap (λ (y : Archive). slice_get y.tables n) same ∙ t.1, omega (arith, came.to, ap (λ (h : Held). h.front) t.2))
 
-pub fronts_later : (os : List Outcome) (mid new : View) → IsLawful new → LeavesOnly mid new (GoesOnFrom mid) → FrontsStand os mid → FrontsStand os new
+pub fronts_later : (os : List Outcome) (mid new : View) → IsLawful new → LeavesOnly mid new (GoesOnBy StaysOrCollects mid) → FrontsStand os mid → FrontsStand os new
 fronts_later os mid new lawful leaves stand w image a n x world is has at =
-    let from = now_from mid new lawful leaves w image world is in
+    let from = now_from StaysOrCollects mid new lawful leaves w image world is in
     ⊎_elim
     (λ kept. stand from.before from.first a n x from.known from.was (has_before from.first image a kept has) at)
     (λ (c : Collects from.first image).

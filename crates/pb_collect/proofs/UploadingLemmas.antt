@@ -6,8 +6,8 @@ use Rattle.pb_tdf.specs.Definition.{file_bytes_max}
 use Rattle.pb_trans.specs.declared.asked.Limits.{Limits}
 use Rattle.pb_ask.specs.Asking.{Asks, Stops}
 use Rattle.pb_ask.specs.Listening.{Listening}
-use Rattle.pb_ask.specs.declared.question.Outcome.{Outcome}
-use Rattle.pb_ask.specs.declared.question.Outcome.TheVariants as outcome
+use Rattle.pb_ask.specs.declared.question.Conclusion.{Conclusion}
+use Rattle.pb_ask.specs.declared.question.Conclusion.TheVariants as conclusion
 use Rattle.pb_collect.specs.Tables.{Channel, channel}
 use Rattle.pb_collect.specs.Upload.{Brings, wanted_piece}
 use Rattle.pb_collect.specs.Uploads.{AskedFrom, Brought, Joined, PieceStops, StepIs}
@@ -22,20 +22,20 @@ abbrev pub command_at : Contact → ℕ → ℕ → UploadCommand
 command_at contact tran offset = record { contact = contact; tran = tran; offset = offset }
 
 module _ (limits : Limits) (contact : Contact) (tran offset at : ℕ) (place : offset ≡ at) (old new : Listening) (a b : Link) where
-  pub asked_at : (o p : Outcome FileReply) → p ≡ o → Asks (wanted_piece (command_at contact tran offset)) limits old a p new b
+  pub asked_at : (o p : Conclusion FileReply) → p ≡ o → Asks (wanted_piece (command_at contact tran offset)) limits old a p new b
       → AskedFrom limits contact at (channel old a) o (channel new b)
   asked_at o p is asks = record {
     command = command_at contact tran offset;
     from_here = record { contact_is = refl; offset = place };
-    asks = subst (λ (q : Outcome FileReply). Asks (wanted_piece (command_at contact tran offset)) limits old a q new b) is asks;
+    asks = subst (λ (q : Conclusion FileReply). Asks (wanted_piece (command_at contact tran offset)) limits old a q new b) is asks;
   }
 
-  pub brought_at : (p : Outcome FileReply) (bytes : List ℕ) → p ≡ outcome.Answer reply.Data → Asks (wanted_piece (command_at contact tran offset)) limits old a p new b
+  pub brought_at : (p : Conclusion FileReply) (bytes : List ℕ) → p ≡ conclusion.Answer reply.Data → Asks (wanted_piece (command_at contact tran offset)) limits old a p new b
       → Brings (command_at contact tran offset) bytes (drop 8 new.ear.content) → Brought limits contact at bytes (channel old a) (channel new b)
   brought_at p bytes is asks brings = record {
     command = command_at contact tran offset;
     from_here = record { contact_is = refl; offset = place };
-    asks = subst (λ (q : Outcome FileReply). Asks (wanted_piece (command_at contact tran offset)) limits old a q new b) is asks;
+    asks = subst (λ (q : Conclusion FileReply). Asks (wanted_piece (command_at contact tran offset)) limits old a q new b) is asks;
     brings = brings;
   }
 

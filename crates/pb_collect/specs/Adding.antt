@@ -1,40 +1,22 @@
 -- What calls keep that read definitions: no record is asked for, and tables are only added or stopped.
-use Rattle.std.specs.Prelude.{◌≡◌, ◌⊎◌, ℕ, List, ◌++◌, Option, Some}
+use Rattle.std.specs.Prelude.{◌≡◌, ◌⊎◌, ℕ, List, Some}
 use Rattle.pb_base.specs.World.{World}
-use Rattle.pb_io.specs.View.{View, LeavesOnly}
+use Rattle.pb_io.specs.View.{View}
 use Rattle.pb_journal.specs.Changes.{Keeps as KeepsEntries}
 use Rattle.pb_archive.specs.Archive.{Archive}
 use Rattle.pb_archive.specs.Entry.{Change}
 use Rattle.pb_archive.specs.Held.{HasArchive, GoesOn}
 use Rattle.pb_archive.specs.Opened.{Register, kept_of, register_after}
-use Rattle.pb_truth.specs.Pairs.{AreGood, AreGoodSince}
-use Rattle.pb_collect.specs.Kept.{Grows}
+use Rattle.pb_collect.specs.Kept.{KeepsBy}
 
 -- The file itself, one with its entries, or one whose archive goes on from its; tables may be added.
 abbrev pub StaysOrGrows : List ℕ → List ℕ → Type 0
 StaysOrGrows old new = KeepsEntries old new ⊎ GoesOn old new
 
--- A file that goes on from one that a crash might have left at the first moment, in a world that grew from the one then.
-pub record GrownFrom (old : View) (w : World) (image : List ℕ) : Type 0 where
-  pub first : List ℕ
-  pub was : old.image first
-  pub goes_on : StaysOrGrows first image
-  pub before : World
-  pub more : World
-  pub known : old.link.world ≡ Some before
-  pub is : w ≡ before ++ more
-
 -- What calls keep: at each moment the file that a crash leaves goes on from one of before; and where all of before were good,
 -- all that a crash leaves are good, whatever was heard.
-pub record Adds (old new : View) : Type 0 where
-  pub grows : Grows old.link.world new.link.world
-  pub leaves : LeavesOnly old new (GrownFrom old)
-  pub good : AreGood old → AreGoodSince old new
-
--- Each file that a crash of now may leave goes on from this one.
-abbrev pub AllGrowFrom : Option (List ℕ) → View → Type 0
-AllGrowFrom file now =
-    (w : World) (image first : List ℕ) → now.link.world ≡ Some w → now.image image → file ≡ Some first → StaysOrGrows first image
+abbrev pub Adds : View → View → Type 0
+Adds old new = KeepsBy StaysOrGrows (Unit {0}) old new
 
 -- Each file that a crash of now may leave has the archive of which this is kept, or that with one change more.
 pub record HoldsAtLeast (r : Register) (now : View) : Type 0 where

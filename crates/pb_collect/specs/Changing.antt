@@ -18,4 +18,5 @@ pub record ChangesOnly (id : ℕ) (old new : Register) : Type 0 where
   pub plan : new.plan ≡ old.plan
   pub count : length new.tables ≡ length old.tables
   pub others : (n : ℕ) → (n ≡ id → ⊥) → slice_get new.tables n ≡ slice_get old.tables n
-  pub here : (before after : Held) → slice_get old.tables id ≡ Some before → slice_get new.tables id ≡ Some after → GoesOnAs before after
+  pub here : (before after : Held) → slice_get old.tables id ≡ Some before → slice_get new.tables id ≡ Some after
+      → GoesOnAs before after

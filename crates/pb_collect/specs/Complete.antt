@@ -21,14 +21,19 @@ use Rattle.pb_collect.specs.declared.outcome.Outcome.{Outcome}
 
 -- the table, as worlds tell of it
 abbrev pub key_of : Plan → Held → TableKey
-key_of plan held = record { station = address_of (slice_get plan.stations held.station); number = held.number.0; signature = held.table.signature }
+key_of plan held = record {
+  station = address_of (slice_get plan.stations held.station);
+  number = held.number.0;
+  signature = held.table.signature;
+}
 
 -- No table has a stop, and each may take as many requests as full answers need for the records that were held from its front
 -- on and those that came to be stored.
 pub record CanComplete (budget : ℕ) (first last : World) (r : Register) : Type 0 where
   pub going_on : (n : ℕ) (held : Held) → slice_get r.tables n ≡ Some held → held.stop ≡ None
   pub enough : (n : ℕ) (held : Held) (layout : Layout) → slice_get r.tables n ≡ Some held → held.table.layout ≡ Ok layout
-      → bound layout held.front (history first (key_of r.plan held)).oldest (length (history last (key_of r.plan held)).records) ≤ budget
+      → bound layout held.front (history first (key_of r.plan held)).oldest
+      (length (history last (key_of r.plan held)).records) ≤ budget
 
 -- The answer at this stage was heard meanwhile: the full one to a request for the table.
 pub record HeardAt (first last : World) (key : TableKey) (stage : Stage) : Type 0 where
@@ -53,7 +58,8 @@ pub record IsComplete (first last : World) (plan : Plan) (held : Held) (o : Outc
 -- of each table with an outcome
 abbrev pub AllComplete : World → World → Register → List Outcome → Type 0
 AllComplete first last r os =
-    (n : ℕ) (o : Outcome) (held : Held) → slice_get os n ≡ Some o → slice_get r.tables n ≡ Some held → IsComplete first last r.plan held o
+    (n : ℕ) (o : Outcome) (held : Held) → slice_get os n ≡ Some o → slice_get r.tables n ≡ Some held
+    → IsComplete first last r.plan held o
 
 -- A round over a site whose file and world are known, in which nothing disturbs it: the world is undisturbed and honest, all was
 -- good before, no call fails, and the budget is enough.

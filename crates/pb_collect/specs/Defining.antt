@@ -4,11 +4,12 @@ use Rattle.std.specs.List.{AllByRecursion}
 use Rattle.pb_io.specs.View.{View}
 use Rattle.pb_tdf.specs.View.{TableView, no_layout}
 use Rattle.pb_archive.specs.Entry.{Stopped, tables_max}
-use Rattle.pb_archive.specs.Opened.{HasLayout, IsOpen, IsOther, OpenArchive, Register, register_after, with_table}
+use Rattle.pb_archive.specs.Opened.{HasLayout, IsOpen, IsOther, OpenArchive, Register, register_after, register_of, with_table}
 use Rattle.pb_archive.specs.Refusals.{NeedsOpening}
 use Rattle.pb_archive.specs.declared.held.Held.{Held}
 use Rattle.pb_archive.specs.declared.table_view.Stop.{Stop}
-use Rattle.pb_collect.specs.Exchanges.{RoseAlone}
+use Rattle.pb_collect.specs.Adding.{Adds, HoldsAtLeast}
+use Rattle.pb_collect.specs.Exchanges.{Goes, RoseAlone}
 use Rattle.pb_collect.specs.declared.report.DefsLine.{DefsLine}
 use Rattle.pb_collect.specs.declared.report.DefsWhat.{DefsWhat}
 use Rattle.pb_collect.specs.declared.report.DefsWhat.TheVariants.{Added, Same, Redefined, NotText, NotFull, Failed, Bad}
@@ -65,14 +66,15 @@ TablesCame station tables (suc n) lines before after =
     (earlier : List DefsLine) × (line : DefsLine) × (t : TableView) × (mid : Register) × (lines ≡ earlier ++ line ∷ [])
     × TablesCame station tables n earlier before mid × (slice_get tables n ≡ Some t) × TableCame station (suc n) t line mid after
 
--- ---- faults
+-- ---- calls of the disk alone
 
--- no call failed, and the archive stays usable
-pub record Goes (o : OpenArchive) (old new : View) : Type 0 where
-  pub usable : NeedsOpening o false
-  pub opened : IsOpen o new
-  pub faults : new.faults ≡ old.faults
-  pub link_faults : new.link.faults ≡ old.link.faults
+-- What they keep: what each image holds is what is held now, or that and one change more; the archives go on; the link stays.
+pub record DiskKeeps (o : OpenArchive) (old new : View) : Type 0 where
+  pub holds : HoldsAtLeast (register_of o) new
+  pub adds : Adds old new
+  pub link : new.link ≡ old.link
+
+-- ---- faults
 
 -- What a fault leaves: after a failed disk call the archive must be opened again; after another one it stays usable. Its own
 -- count rose, and no other.

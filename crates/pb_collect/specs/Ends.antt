@@ -1,7 +1,7 @@
 -- What comes next for a table when a request ended: the table of its ends.
 use Rattle.std.specs.Prelude.{◌≡◌, ◌≢◌, ◌⊎◌, ℕ, ◌+◌, ◌<◌, Bool, true, false, ◌&&◌, nat_lt, length, if◌then◌else◌}
-use Rattle.pb_ask.specs.declared.question.Outcome.{Outcome}
-use Rattle.pb_ask.specs.declared.question.Outcome.TheVariants as outcome
+use Rattle.pb_ask.specs.declared.question.Conclusion.{Conclusion}
+use Rattle.pb_ask.specs.declared.question.Conclusion.TheVariants as conclusion
 use Rattle.pb_truth.specs.Learning.{Known, without_partial}
 use Rattle.pb_collect.specs.Progress.{Progress, question}
 use Rattle.pb_collect.specs.declared.answer.Said.{Said}
@@ -21,12 +21,12 @@ abbrev pub GoesOn : Progress → Bool → Type 0
 GoesOn p more = (more ≡ true) ⊎ (p.is_partial ≡ true)
 
 -- an answer that fits had response code 0 and this flag
-abbrev pub WasAnswered : Outcome Said → Bool → Type 0
-WasAnswered o more = o ≡ outcome.Answer (record { resp = 0; more = more })
+abbrev pub WasAnswered : Conclusion Said → Bool → Type 0
+WasAnswered o more = o ≡ conclusion.Answer (record { resp = 0; more = more })
 
 -- an answer that fits had this response code
-abbrev pub WasRefused : Outcome Said → ℕ → Type 0
-WasRefused o code = (more : Bool) × (o ≡ outcome.Answer (record { resp = code; more = more }))
+abbrev pub WasRefused : Conclusion Said → ℕ → Type 0
+WasRefused o code = (more : Bool) × (o ≡ conclusion.Answer (record { resp = code; more = more }))
 
 -- ---- the next request
 
@@ -49,12 +49,12 @@ known_after p k = if has_part p then k else without_partial k.table
 abbrev pub redefined : ℕ
 redefined = 7
 
-module _ (budget : ℕ) (p : Progress) (o : Outcome Said) where
+module _ (budget : ℕ) (p : Progress) (o : Conclusion Said) where
   abbrev pub EndsAs : End → Type 0
   EndsAs (Refused code) = WasRefused o code × (code ≢ 0) × (code ≢ redefined)
-  EndsAs (Undelivered code) = o ≡ outcome.Undelivered code
-  EndsAs Flooded = o ≡ outcome.Flooded
-  EndsAs NoAnswer = o ≡ outcome.NoAnswer
+  EndsAs (Undelivered code) = o ≡ conclusion.Undelivered code
+  EndsAs Flooded = o ≡ conclusion.Flooded
+  EndsAs NoAnswer = o ≡ conclusion.NoAnswer
   EndsAs Done = WasAnswered o false × (p.is_partial ≡ false)
   EndsAs Budget = (more : Bool) × WasAnswered o more × GoesOn p more × (p.asked ≡ budget)
   -- such a table is stopped first

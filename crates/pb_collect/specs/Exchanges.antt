@@ -8,8 +8,8 @@ use Rattle.pb_archive.specs.Refusals.{NeedsOpening}
 use Rattle.pb_trans.specs.declared.asked.Limits.{Limits}
 use Rattle.pb_ask.specs.Asking.{Asks, Stops}
 use Rattle.pb_ask.specs.Listening.{Listening}
-use Rattle.pb_ask.specs.declared.question.Outcome.{Outcome}
-use Rattle.pb_ask.specs.declared.question.Outcome.TheVariants.{Answer, Undelivered, NoAnswer, Flooded}
+use Rattle.pb_ask.specs.declared.question.Conclusion.{Conclusion}
+use Rattle.pb_ask.specs.declared.question.Conclusion.TheVariants.{Answer, Undelivered, NoAnswer, Flooded}
 use Rattle.pb_collect.specs.Ends.{Comes}
 use Rattle.pb_collect.specs.Kept.{KnowsTrue}
 use Rattle.pb_collect.specs.Question.{AsksOnce, wanted_reply}
@@ -34,16 +34,17 @@ pub record Took (c : CollectCommand) (l : Listening) (said : Said) (old mid : Pr
   pub taken : said.resp ≡ 0 → mid ≡ after_all old reply.fragments
   pub refused : (said.resp ≡ 0 → ⊥) → mid ≡ old
 
-abbrev pub TookBy : CollectCommand → Listening → Outcome Said → Progress → Progress → Type 0
+abbrev pub TookBy : CollectCommand → Listening → Conclusion Said → Progress → Progress → Type 0
 TookBy c l (Answer said) old mid = Took c l said old mid
 TookBy c l (Undelivered code) old mid = mid ≡ old
 TookBy c l NoAnswer old mid = mid ≡ old
 TookBy c l Flooded old mid = mid ≡ old
 
 -- what an answer with response code 0 teaches is true
-abbrev pub TeachesTrue : CollectCommand → Listening → View → ℕ → Progress → Outcome Said → Type 0
+abbrev pub TeachesTrue : CollectCommand → Listening → View → ℕ → Progress → Conclusion Said → Type 0
 TeachesTrue c l now id p (Answer said) =
-    said.resp ≡ 0 → (reply : SeenReply) → ReadsNow c l reply → reply.resp ≡ 0 → Fits c.mode reply → KnowsTrue now id (partial_bytes p) reply.fragments
+    said.resp ≡ 0 → (reply : SeenReply) → ReadsNow c l reply → reply.resp ≡ 0 → Fits c.mode reply
+    → KnowsTrue now id (partial_bytes p) reply.fragments
 TeachesTrue c l now id p (Undelivered code) = ⊤
 TeachesTrue c l now id p NoAnswer = ⊤
 TeachesTrue c l now id p Flooded = ⊤
@@ -61,18 +62,26 @@ BrokenBy DiskFault o old new = NeedsOpening o true × RoseAlone old.faults new.f
 BrokenBy LinkFault o old new =
     NeedsOpening o false × IsOpen o new × RoseAlone old.link.faults new.link.faults old.faults new.faults
 
--- One request was asked, whose frame asks for nothing else, and had this outcome; its answer was taken, and this comes next.
-pub record Exchanged (c : CollectCommand) (limits : Limits) (l_old : Listening) (link_old : Link) (p_old : Progress) (next : Next) (l_new : Listening) (link_new : Link) (p_new : Progress) : Type 0 where
-  pub once : AsksOnce c
-  pub outcome : Outcome Said
-  pub mid : Progress
-  pub asks : Asks (wanted_reply c) limits l_old link_old outcome l_new link_new
-  pub took : TookBy c l_new outcome p_old mid
-  pub comes : Comes limits.budget mid outcome next p_new
+-- no call failed, and the archive stays usable
+pub record Goes (o : OpenArchive) (old new : View) : Type 0 where
+  pub usable : NeedsOpening o false
+  pub opened : IsOpen o new
+  pub faults : new.faults ≡ old.faults
+  pub link_faults : new.link.faults ≡ old.link.faults
 
--- A request that was broken off: a call of the link failed before it was answered, or it had an outcome and a disk call failed
+-- One request was asked, whose frame asks for nothing else, and had this conclusion; its answer was taken, and this comes next.
+pub record Exchanged (c : CollectCommand) (limits : Limits) (l_old : Listening) (link_old : Link) (p_old : Progress) (next : Next)
+    (l_new : Listening) (link_new : Link) (p_new : Progress) : Type 0 where
+  pub once : AsksOnce c
+  pub conclusion : Conclusion Said
+  pub mid : Progress
+  pub asks : Asks (wanted_reply c) limits l_old link_old conclusion l_new link_new
+  pub took : TookBy c l_new conclusion p_old mid
+  pub comes : Comes limits.budget mid conclusion next p_new
+
+-- A request that was broken off: a call of the link failed before it was answered, or it had a conclusion and a disk call failed
 -- while its answer was taken.
 abbrev pub BreaksBy : Broken → CollectCommand → Limits → Listening → Link → Link → Type 0
 BreaksBy LinkFault c limits l link_old link_new = (last : Listening) × Stops (wanted_reply c) limits l link_old last link_new
 BreaksBy DiskFault c limits l link_old link_new =
-    (last : Listening) × (outcome : Outcome Said) × Asks (wanted_reply c) limits l link_old outcome last link_new
+    (last : Listening) × (conclusion : Conclusion Said) × Asks (wanted_reply c) limits l link_old conclusion last link_new

@@ -131,7 +131,8 @@ pub record LineBreaks (limits : Limits) (contact : Contact) (lines : List DefsLi
 
 abbrev pub ContactStops : DefsFault → Limits → Contact → ℕ → List DefsLine → Channel → Link → Register → Register → Type 0
 ContactStops LinkFault limits contact n lines from link before after = UploadBreaks limits contact lines from link before after
-ContactStops DiskFault limits contact n lines from link before after = ReadBreaks DiskFault limits contact n lines from link before after
+ContactStops DiskFault limits contact n lines from link before after =
+    ReadBreaks DiskFault limits contact n lines from link before after
 ContactStops Memory limits contact n lines from link before after =
     ReadBreaks Memory limits contact n lines from link before after ⊎ LineBreaks limits contact lines from link before after
 

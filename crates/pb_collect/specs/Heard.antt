@@ -8,8 +8,8 @@ use Rattle.pb_bmp5.specs.TrueReply.{Delivered}
 use Rattle.pb_archive.specs.Archive.{Archive}
 use Rattle.pb_archive.specs.Held.{HasArchive}
 use Rattle.pb_ask.specs.Listening.{Listening, IsListening}
-use Rattle.pb_ask.specs.declared.question.Outcome.{Outcome}
-use Rattle.pb_ask.specs.declared.question.Outcome.TheVariants.{Answer, Undelivered, NoAnswer, Flooded}
+use Rattle.pb_ask.specs.declared.question.Conclusion.{Conclusion}
+use Rattle.pb_ask.specs.declared.question.Conclusion.TheVariants.{Answer, Undelivered, NoAnswer, Flooded}
 use Rattle.pb_truth.specs.Asked.{Allows}
 use Rattle.pb_truth.specs.Honest.{WasHeard}
 use Rattle.pb_collect.specs.Question.{MeansReply, command_request}
@@ -40,7 +40,7 @@ pub record HasHeard (c : CollectCommand) (said : Said) (l : Listening) (link : L
   pub heard : (w : World) → link.world ≡ Some w → WasHeard w packet
 
 -- what was heard where an answer ended the request
-abbrev pub HeardBy : CollectCommand → Outcome Said → Listening → Link → Type 0
+abbrev pub HeardBy : CollectCommand → Conclusion Said → Listening → Link → Type 0
 HeardBy c (Answer said) l link = HasHeard c said l link
 HeardBy c (Undelivered code) l link = ⊤
 HeardBy c NoAnswer l link = ⊤

@@ -26,11 +26,18 @@ pub record Collects (old new : List ℕ) : Type 0 where
 abbrev pub StaysOrCollects : List ℕ → List ℕ → Type 0
 StaysOrCollects old new = KeepsEntries old new ⊎ Collects old new
 
--- A file that goes on from one that a crash might have left at the first moment, in a world that grew from the one then.
-pub record GoesOnFrom (old : View) (w : World) (image : List ℕ) : Type 0 where
+-- ---- calls go on by a step
+
+-- A step relates a file of before and one of after.
+abbrev pub Step : Type 1
+Step = (old new : List ℕ) → Type 0
+
+-- A file that goes on by the step from one that a crash might have left at the first moment, in a world that grew from the
+-- one then.
+pub record GoesOnBy (S : Step) (old : View) (w : World) (image : List ℕ) : Type 0 where
   pub first : List ℕ
   pub was : old.image first
-  pub goes_on : StaysOrCollects first image
+  pub goes_on : S first image
   pub before : World
   pub more : World
   pub known : old.link.world ≡ Some before
@@ -49,25 +56,26 @@ abbrev pub HonestFrom : View → View → Type 0
 HonestFrom entry now =
     (w : World) (image : List ℕ) (a : Archive) → now.link.world ≡ Some w → entry.image image → HasArchive image a → Honest w a
 
--- What calls keep, where P is so: at each moment the file that a crash leaves goes on from one of before, and where all were
--- good, all are.
-pub record KeepsWhere (P : Type 0) (old new : View) : Type 0 where
-  pub grows : Grows old.link.world new.link.world
-  pub leaves : LeavesOnly old new (GoesOnFrom old)
-  pub good : P → AreGood old → AreGoodSince old new
+-- ---- what calls keep
 
--- What calls keep: at each moment the file that a crash leaves goes on from one of before; and where all of before were good,
--- and the world is honest now, all that a crash leaves are good.
-pub record Keeps (old new : View) : Type 0 where
+-- At each moment the file that a crash leaves goes on by the step from one of before; and where all of before were good, and P
+-- is so, all that a crash leaves are good.
+pub record KeepsBy (S : Step) (P : Type 0) (old new : View) : Type 0 where
   pub grows : Grows old.link.world new.link.world
-  pub leaves : LeavesOnly old new (GoesOnFrom old)
-  pub good : AreGood old → HonestFrom old new → AreGoodSince old new
+  pub leaves : LeavesOnly old new (GoesOnBy S old)
+  pub good : AreGood old → P → AreGoodSince old new
+
+-- Records are collected, where P is so.
+abbrev pub KeepsWhere : Type 0 → View → View → Type 0
+KeepsWhere P old new = KeepsBy StaysOrCollects P old new
+
+-- Records are collected, in a world that is honest now.
+abbrev pub Keeps : View → View → Type 0
+Keeps old new = KeepsBy StaysOrCollects (HonestFrom old new) old new
 
 -- The same, where P is so.
-pub record KeepsHonest (P : Type 0) (old new : View) : Type 0 where
-  pub grows : Grows old.link.world new.link.world
-  pub leaves : LeavesOnly old new (GoesOnFrom old)
-  pub good : P → AreGood old → HonestFrom old new → AreGoodSince old new
+abbrev pub KeepsHonest : Type 0 → View → View → Type 0
+KeepsHonest P old new = KeepsBy StaysOrCollects (P × HonestFrom old new) old new
 
 -- These fragments, taken in with these bytes of a partial record, leave what is known of the table true.
 abbrev pub KnowsTrue : View → ℕ → List ℕ → List SeenFragment → Type 0
@@ -76,7 +84,7 @@ KnowsTrue now id partial fs =
     → HasArchive image a → slice_get a.tables id ≡ Some t
     → SoundKnown (learned (record_layout t.definition) (record { table = t; partial = partial }) fs) (history w t.key)
 
--- Each file that a crash of now may leave goes on from this one.
-abbrev pub AllGoOnFrom : Option (List ℕ) → View → Type 0
-AllGoOnFrom file now =
-    (w : World) (image first : List ℕ) → now.link.world ≡ Some w → now.image image → file ≡ Some first → StaysOrCollects first image
+-- Each file that a crash of now may leave goes on by the step from this one.
+abbrev pub AllGoOnBy : Step → Option (List ℕ) → View → Type 0
+AllGoOnBy S file now =
+    (w : World) (image first : List ℕ) → now.link.world ≡ Some w → now.image image → file ≡ Some first → S first image

@@ -48,7 +48,8 @@ pub record Reaches (os : List Outcome) (old new : Register) : Type 0 where
   pub plan : new.plan ≡ old.plan
   pub count : length new.tables ≡ length old.tables
   pub came : AllCameOut os old new
-  pub begun : (before after : Held) → slice_get old.tables (length os) ≡ Some before → slice_get new.tables (length os) ≡ Some after → GoesOnAs before after
+  pub begun : (before after : Held) → slice_get old.tables (length os) ≡ Some before
+      → slice_get new.tables (length os) ≡ Some after → GoesOnAs before after
   pub later : (n : ℕ) → length os < n → slice_get new.tables n ≡ slice_get old.tables n
 
 -- what was asked of the table of an outcome, and how it ended
@@ -71,7 +72,8 @@ pub record Asks (limits : Limits) (r : Register) (os : List Outcome) (link_old l
   pub all : AllEnd limits r os (channel first link_old) (channel last link_new)
 
 -- The tables of a round were asked, and at the next one it was broken off.
-pub record AsksUntil (broken : Broken) (limits : Limits) (r : Register) (os : List Outcome) (link_old link_new : Link) : Type 0 where
+pub record AsksUntil (broken : Broken) (limits : Limits) (r : Register) (os : List Outcome)
+    (link_old link_new : Link) : Type 0 where
   pub first : Listening
   pub quiet : first.inbox ≡ []
   pub fresh : StandsFor first.ear []

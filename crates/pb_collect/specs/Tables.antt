@@ -58,7 +58,8 @@ point listener link p = record { channel = channel listener link; progress = p }
 pub record Requested (limits : Limits) (plan : Plan) (held : Held) (from : Point) (next : Next) (to : Point) : Type 0 where
   pub command : CollectCommand
   pub of : IsCommandTo plan held from.progress command
-  pub exchanged : Exchanged command limits from.channel.listener from.channel.link from.progress next to.channel.listener to.channel.link to.progress
+  pub exchanged : Exchanged command limits from.channel.listener from.channel.link from.progress next
+      to.channel.listener to.channel.link to.progress
 
 -- so many requests, after each of which another comes
 abbrev pub Requests : Limits → Plan → Held → ℕ → Point → Point → Type 0
@@ -67,7 +68,8 @@ Requests limits plan held (suc n) from to =
     (mid : Point) × (mode : Mode) × Requests limits plan held n from mid × Requested limits plan held mid (Ask mode) to
 
 -- so many requests, after the last of which this comes
-pub record Asked (limits : Limits) (plan : Plan) (held : Held) (asked : ℕ) (from : Point) (next : Next) (to : Point) : Type 0 where
+pub record Asked (limits : Limits) (plan : Plan) (held : Held) (asked : ℕ) (from : Point) (next : Next)
+    (to : Point) : Type 0 where
   pub before : ℕ
   pub count : asked ≡ before + 1
   pub mid : Point
@@ -94,7 +96,8 @@ pub record Collected (limits : Limits) (plan : Plan) (held : Held) (o : Outcome)
   pub has_layout : held.table.layout ≡ Ok layout
   pub idle : Progress
   pub last : Progress
-  pub ended : EndedBy limits plan held o.asked (start_of from idle layout held.front) o.end (record { channel = to; progress = last })
+  pub ended : EndedBy limits plan held o.asked (start_of from idle layout held.front) o.end
+      (record { channel = to; progress = last })
   pub within : o.asked ≤ limits.budget
   pub front : o.to.0 ≡ last.front
 

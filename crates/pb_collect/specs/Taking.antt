@@ -67,7 +67,8 @@ abbrev pub AdvancesTrue : View → ℕ → List Advance → Type 0
 AdvancesTrue now id todo =
     (w : World) (image : List ℕ) (a : Archive) (t : Table) → now.link.world ≡ Some w → now.image image
     → HasArchive image a → slice_get a.tables id ≡ Some t
-    → (some more : List Advance) → todo ≡ some ++ more → SoundTable (table_after (record_layout t.definition) t some) (history w t.key)
+    → (some more : List Advance) → todo ≡ some ++ more
+    → SoundTable (table_after (record_layout t.definition) t some) (history w t.key)
 
 -- this table came of one that was there before, by these advances
 pub record CameOf (old : View) (id : ℕ) (done : List Advance) (u : Table) : Type 0 where
@@ -81,4 +82,5 @@ pub record CameOf (old : View) (id : ℕ) (done : List Advance) (u : Table) : Ty
 
 abbrev pub AllCameOf : View → View → ℕ → List Advance → Type 0
 AllCameOf old new id done =
-    (image : List ℕ) (a : Archive) (u : Table) → new.image image → HasArchive image a → slice_get a.tables id ≡ Some u → CameOf old id done u
+    (image : List ℕ) (a : Archive) (u : Table) → new.image image → HasArchive image a → slice_get a.tables id ≡ Some u
+    → CameOf old id done u

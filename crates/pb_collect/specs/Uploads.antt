@@ -6,8 +6,8 @@ use Rattle.pb_tdf.specs.Definition.{file_bytes_max}
 use Rattle.pb_trans.specs.declared.asked.Limits.{Limits}
 use Rattle.pb_ask.specs.Asking.{Asks, Stops}
 use Rattle.pb_ask.specs.Listening.{Listening}
-use Rattle.pb_ask.specs.declared.question.Outcome.{Outcome}
-use Rattle.pb_ask.specs.declared.question.Outcome.TheVariants as outcome
+use Rattle.pb_ask.specs.declared.question.Conclusion.{Conclusion}
+use Rattle.pb_ask.specs.declared.question.Conclusion.TheVariants as conclusion
 use Rattle.pb_collect.specs.Tables.{Channel}
 use Rattle.pb_collect.specs.Upload.{Brings, MeansUpload, wanted_piece}
 use Rattle.pb_collect.specs.declared.command.Contact.{Contact}
@@ -26,8 +26,8 @@ pub record AsksFrom (contact : Contact) (at : ℕ) (c : UploadCommand) : Type 0 
   pub contact_is : c.contact ≡ contact
   pub offset : c.offset ≡ at
 
--- The station was asked for its file from this place on, and that had this outcome.
-pub record AskedFrom (limits : Limits) (contact : Contact) (at : ℕ) (from : Channel) (o : Outcome FileReply)
+-- The station was asked for its file from this place on, and that had this conclusion.
+pub record AskedFrom (limits : Limits) (contact : Contact) (at : ℕ) (from : Channel) (o : Conclusion FileReply)
     (to : Channel) : Type 0 where
   pub command : UploadCommand
   pub from_here : AsksFrom contact at command
@@ -37,7 +37,7 @@ pub record AskedFrom (limits : Limits) (contact : Contact) (at : ℕ) (from : Ch
 pub record Brought (limits : Limits) (contact : Contact) (at : ℕ) (bytes : List ℕ) (from to : Channel) : Type 0 where
   pub command : UploadCommand
   pub from_here : AsksFrom contact at command
-  pub asks : Asks (wanted_piece command) limits from.listener from.link (outcome.Answer reply.Data) to.listener to.link
+  pub asks : Asks (wanted_piece command) limits from.listener from.link (conclusion.Answer reply.Data) to.listener to.link
   pub brings : Brings command bytes (drop 8 to.listener.ear.content)
 
 -- ---- requests, one after the other
@@ -68,11 +68,11 @@ pub record Uploads (limits : Limits) (contact : Contact) (file : List ℕ) (from
   pub whole : IsWhole limits contact file mid to
 
 -- how a request ends where an upload fails so
-abbrev pub outcome_of : Cause → Outcome FileReply
-outcome_of NoAnswer = outcome.NoAnswer
-outcome_of Flooded = outcome.Flooded
-outcome_of (Undelivered code) = outcome.Undelivered code
-outcome_of (Refused code) = outcome.Answer (reply.Refused code)
+abbrev pub conclusion_of : Cause → Conclusion FileReply
+conclusion_of NoAnswer = conclusion.NoAnswer
+conclusion_of Flooded = conclusion.Flooded
+conclusion_of (Undelivered code) = conclusion.Undelivered code
+conclusion_of (Refused code) = conclusion.Answer (reply.Refused code)
 
 -- A request of an upload ended so, and not with bytes.
 pub record UploadFails (limits : Limits) (contact : Contact) (cause : Cause) (from to : Channel) : Type 0 where
@@ -80,7 +80,7 @@ pub record UploadFails (limits : Limits) (contact : Contact) (cause : Cause) (fr
   pub mid : Channel
   pub joined : Joined limits contact file from mid
   pub few : length file ≤ file_bytes_max
-  pub asked : AskedFrom limits contact (length file) mid (outcome_of cause) to
+  pub asked : AskedFrom limits contact (length file) mid (conclusion_of cause) to
 
 -- what came of an upload
 abbrev pub UploadComes : Limits → Contact → Option Cause → List ℕ → Channel → Channel → Type 0
@@ -105,11 +105,12 @@ pub record UploadStops (limits : Limits) (contact : Contact) (from : Channel) (l
 -- ---- on the way
 
 -- where an answer ended the request, the message at hand means it
-abbrev pub HoldsReply : UploadCommand → Outcome FileReply → Listening → Type 0
-HoldsReply c (outcome.Answer said) l = HoldsContent l.ear × (8 ≤ length l.ear.content) × MeansUpload c said (drop 8 l.ear.content)
-HoldsReply c (outcome.Undelivered code) l = ⊤
-HoldsReply c outcome.NoAnswer l = ⊤
-HoldsReply c outcome.Flooded l = ⊤
+abbrev pub HoldsReply : UploadCommand → Conclusion FileReply → Listening → Type 0
+HoldsReply c (conclusion.Answer said) l =
+    HoldsContent l.ear × (8 ≤ length l.ear.content) × MeansUpload c said (drop 8 l.ear.content)
+HoldsReply c (conclusion.Undelivered code) l = ⊤
+HoldsReply c conclusion.NoAnswer l = ⊤
+HoldsReply c conclusion.Flooded l = ⊤
 
 -- what one request makes of the bytes joined so far
 abbrev pub StepIs : Limits → Contact → Step → List ℕ → List ℕ → Channel → Channel → Type 0
@@ -117,4 +118,4 @@ StepIs limits contact Came old new from to =
     (bytes : List ℕ) × (new ≡ old ++ bytes) × (0 < length bytes) × Brought limits contact (length old) bytes from to
 StepIs limits contact Ends old new from to = (new ≡ old) × Brought limits contact (length old) [] from to
 StepIs limits contact (Fails cause) old new from to = (new ≡ old) × AskedFrom limits contact (length old) from
-    (outcome_of cause) to
+    (conclusion_of cause) to

@@ -9,7 +9,7 @@ ghost use Rattle.pb_collect.specs.Question.{AsksOnce, wanted_reply};
 
 use crate::answer::Said;
 use crate::question::CollectCommand;
-use pb_ask::{Listener, Outcome};
+use pb_ask::{Conclusion, Listener};
 use pb_io::{Failed, Site};
 use pb_trans::Limits;
 
@@ -19,19 +19,19 @@ pub(crate) fn ask<S: Site>(
     site: &mut S,
     limits: Limits,
     command: &CollectCommand,
-) -> Result<Outcome<Said>, Failed>
+) -> Result<Conclusion<Said>, Failed>
     requires sends { 1 ≤ limits.sends }
     requires quiets { 1 ≤ limits.quiets }
     requires count { listener.old.ear.count ≤ 2 ^ 61 }
     requires allowed { IsAllowedIn (S.view site.old) command.now }
     requires listens { Listens listener.old (S.view site.old).link }
-    ensures asks { IfOk result (λ outcome. Asks (wanted_reply command.now) limits listener.old
-        (S.view site.old).link outcome listener.new (S.view site.new).link) }
+    ensures asks { IfOk result (λ conclusion. Asks (wanted_reply command.now) limits listener.old
+        (S.view site.old).link conclusion listener.new (S.view site.new).link) }
     ensures stops { OnErr result (Stops (wanted_reply command.now) limits listener.old
         (S.view site.old).link listener.new (S.view site.new).link) }
     ensures once { AsksOnce command.now }
     ensures listens { OnOk result (Listens listener.new (S.view site.new).link) }
-    ensures heard { IfOk result (λ outcome. HeardBy command.now outcome listener.new
+    ensures heard { IfOk result (λ conclusion. HeardBy command.now conclusion listener.new
         (S.view site.new).link) }
     ensures keeps { Keeps (S.view site.old) (S.view site.new) }
     ensures disk { ReadsOnly (S.view site.old) (S.view site.new) }
@@ -40,6 +40,6 @@ pub(crate) fn ask<S: Site>(
     ensures count { listener.new.ear.count ≤ listener.old.ear.count + 2 ^ 25 }
 {
     command.asks_once();
-    let outcome = listener.ask(site, limits, command)?;
-    Ok(outcome)
+    let conclusion = listener.ask(site, limits, command)?;
+    Ok(conclusion)
 }

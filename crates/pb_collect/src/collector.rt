@@ -9,8 +9,8 @@ ghost use Rattle.pb_io.specs.Settled.{Leaves};
 ghost use Rattle.pb_journal.specs.Changes.{SameEntries, Keeps as KeepsEntries};
 ghost use Rattle.pb_collect.specs.Complete.{Completes};
 ghost use Rattle.pb_collect.specs.Adding.{Adds, HoldsAtLeast};
-ghost use Rattle.pb_collect.specs.Defining.{FaultLeaves, Goes};
-ghost use Rattle.pb_collect.specs.Exchanges.{BrokenBy};
+ghost use Rattle.pb_collect.specs.Defining.{FaultLeaves};
+ghost use Rattle.pb_collect.specs.Exchanges.{BrokenBy, Goes};
 ghost use Rattle.pb_collect.specs.Fetching.{AddedStand, EndedByFault, Fetched, FetchedUntil};
 ghost use Rattle.pb_collect.specs.Heard.{Listens};
 ghost use Rattle.pb_collect.specs.Kept.{Keeps};
@@ -260,13 +260,10 @@ fn collect_tables<S: Site>(
     ensures breaks { IfErr result (λ broken. AsksUntil broken limits (register_of archive.old)
         outcomes.new.items (S.view site.old).link (S.view site.new).link) }
     ensures fronts { FrontsStand outcomes.new.items (S.view site.new) }
-    ensures opened { OnOk result (IsOpen archive.new (S.view site.new)) }
-    ensures usable { OnOk result (NeedsOpening archive.new false) }
+    ensures goes { OnOk result (Goes archive.new (S.view site.old) (S.view site.new)) }
     ensures keeps { Keeps (S.view site.old) (S.view site.new) }
     ensures broken { IfErr result (λ broken. BrokenBy broken archive.new (S.view site.old)
         (S.view site.new)) }
-    ensures faults { OnOk result (((S.view site.new).faults ≡ (S.view site.old).faults)
-        × ((S.view site.new).link.faults ≡ (S.view site.old).link.faults)) }
 {
     let mut listener = Listener::new();
     'tables: while outcomes.len() < usize::from(archive.tables()) {

@@ -5,8 +5,8 @@ ghost use Rattle.pb_tdf.specs.View.{IsDefined};
 ghost use Rattle.pb_archive.specs.Opened.{HasLayout, IsOpen, IsOther, register_of};
 ghost use Rattle.pb_archive.specs.Refusals.{NeedsOpening};
 ghost use Rattle.pb_archive.specs.declared.held.Held.{Held};
-ghost use Rattle.pb_collect.specs.Adding.{Adds, HoldsAtLeast};
-ghost use Rattle.pb_collect.specs.Defining.{DiskLeaves, Goes, IsAt, TableCame, TablesCame, Treats};
+ghost use Rattle.pb_collect.specs.Defining.{DiskKeeps, DiskLeaves, IsAt, TableCame, TablesCame, Treats};
+ghost use Rattle.pb_collect.specs.Exchanges.{Goes};
 ghost use Rattle.pb_collect.specs.declared.report.DefsLine.{DefsLine as Line};
 
 use crate::fault::DefsFault;
@@ -62,9 +62,7 @@ fn compare<D: Disk>(
     ensures goes { OnOk result (Goes archive.new (D.view disk.old) (D.view disk.new)) }
     ensures fault { IfErr result (λ fault. DiskLeaves fault archive.new (D.view disk.old)
         (D.view disk.new)) }
-    ensures holds { HoldsAtLeast (register_of archive.new) (D.view disk.new) }
-    ensures adds { Adds (D.view disk.old) (D.view disk.new) }
-    ensures link { (D.view disk.new).link ≡ (D.view disk.old).link }
+    ensures keeps { DiskKeeps archive.new (D.view disk.old) (D.view disk.new) }
 {
     let state = state_of(archive, id);
     if state.signature == signature {
@@ -100,9 +98,7 @@ fn add<D: Disk>(
     ensures goes { OnOk result (Goes archive.new (D.view disk.old) (D.view disk.new)) }
     ensures fault { IfErr result (λ fault. DiskLeaves fault archive.new (D.view disk.old)
         (D.view disk.new)) }
-    ensures holds { HoldsAtLeast (register_of archive.new) (D.view disk.new) }
-    ensures adds { Adds (D.view disk.old) (D.view disk.new) }
-    ensures link { (D.view disk.new).link ≡ (D.view disk.old).link }
+    ensures keeps { DiskKeeps archive.new (D.view disk.old) (D.view disk.new) }
 {
     if usize::from(archive.tables()) >= TABLES_MAX {
         return Ok(DefsWhat::NotFull);
@@ -134,9 +130,7 @@ fn treat<D: Disk>(
     ensures goes { OnOk result (Goes archive.new (D.view disk.old) (D.view disk.new)) }
     ensures fault { IfErr result (λ fault. DiskLeaves fault archive.new (D.view disk.old)
         (D.view disk.new)) }
-    ensures holds { HoldsAtLeast (register_of archive.new) (D.view disk.new) }
-    ensures adds { Adds (D.view disk.old) (D.view disk.new) }
-    ensures link { (D.view disk.new).link ≡ (D.view disk.old).link }
+    ensures keeps { DiskKeeps archive.new (D.view disk.old) (D.view disk.new) }
 {
     if table.layout().is_err() {
         return Ok(DefsWhat::NotText);
@@ -167,9 +161,7 @@ fn define<D: Disk>(
     ensures goes { OnOk result (Goes archive.new (D.view disk.old) (D.view disk.new)) }
     ensures fault { IfErr result (λ fault. DiskLeaves fault archive.new (D.view disk.old)
         (D.view disk.new)) }
-    ensures holds { HoldsAtLeast (register_of archive.new) (D.view disk.new) }
-    ensures adds { Adds (D.view disk.old) (D.view disk.new) }
-    ensures link { (D.view disk.new).link ≡ (D.view disk.old).link }
+    ensures keeps { DiskKeeps archive.new (D.view disk.old) (D.view disk.new) }
 {
     let Ok(name) = Text::of(alloc, table.name()) else {
         return Err(DefsFault::Memory);
@@ -214,9 +206,7 @@ pub(crate) fn define_all<D: Disk>(
     ensures goes { OnOk result (Goes archive.new (D.view disk.old) (D.view disk.new)) }
     ensures fault { IfErr result (λ fault. DiskLeaves fault archive.new (D.view disk.old)
         (D.view disk.new)) }
-    ensures holds { HoldsAtLeast (register_of archive.new) (D.view disk.new) }
-    ensures adds { Adds (D.view disk.old) (D.view disk.new) }
-    ensures link { (D.view disk.new).link ≡ (D.view disk.old).link }
+    ensures keeps { DiskKeeps archive.new (D.view disk.old) (D.view disk.new) }
 {
     for n in 0..definitions.count() {
         let number = TableNo(n + 1);

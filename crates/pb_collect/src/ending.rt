@@ -4,7 +4,7 @@ ghost use Rattle.pb_collect.specs.Ends.{Comes, EndsAs, redefined};
 
 use crate::answer::Said;
 use crate::progress::Progress;
-use pb_ask::Outcome;
+use pb_ask::Conclusion;
 use pb_bmp5::Mode;
 
 /// The response code under which a station says that the table has another signature (BMP5).

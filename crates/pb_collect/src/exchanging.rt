@@ -9,7 +9,7 @@ ghost use Rattle.pb_truth.specs.Pairs.{AreGood};
 ghost use Rattle.pb_frame.specs.Hearing.{HoldsContent};
 ghost use Rattle.pb_collect.specs.Changing.{ChangesOnly};
 ghost use Rattle.pb_collect.specs.Commands.{IsCommandOf};
-ghost use Rattle.pb_collect.specs.Exchanges.{BreaksBy, BrokenBy, Exchanged, ReadsNow, TeachesTrue, Took, TookBy};
+ghost use Rattle.pb_collect.specs.Exchanges.{BreaksBy, BrokenBy, Exchanged, Goes, ReadsNow, TeachesTrue, Took, TookBy};
 ghost use Rattle.pb_collect.specs.Heard.{HeardBy, Listens};
 ghost use Rattle.pb_collect.specs.Kept.{HonestFrom, KeepsHonest, KeepsWhere, KnowsTrue};
 ghost use Rattle.pb_collect.specs.Progress.{partial_bytes};
@@ -25,7 +25,7 @@ use crate::progress::Progress;
 use crate::question::CollectCommand;
 use crate::taking::take_answer;
 use pb_archive::{Archive, ArchiveFault};
-use pb_ask::{Listener, Outcome};
+use pb_ask::{Conclusion, Listener};
 use pb_base::TableId;
 use pb_bmp5::read_collect;
 use pb_io::{Disk, Failed, Site};
@@ -83,22 +83,22 @@ fn settle<D: Disk>(
     progress: &mut Progress,
     listener: &Listener,
     command: &CollectCommand,
-    outcome: &Outcome<Said>,
+    conclusion: &Conclusion<Said>,
 ) -> Result<(), ArchiveFault>
-    requires heard { HeardBy command.now outcome.now listener.now (D.view disk.old).link }
+    requires heard { HeardBy command.now conclusion.now listener.now (D.view disk.old).link }
     requires command { IsCommandOf archive.old id.0 progress.old command.now }
     requires small { content_len progress.old.layout ≤ entry.advance_bytes_max }
     requires ready { IsReady archive.old id.0 progress.old }
     requires opened { IsOpen archive.old (D.view disk.old) }
     requires usable { NeedsOpening archive.old false }
-    ensures took { OnOk result (TookBy command.now listener.now outcome.now progress.old progress.new) }
+    ensures took { OnOk result (TookBy command.now listener.now conclusion.now progress.old progress.new) }
     ensures ready { OnOk result (IsReady archive.new id.0 progress.new) }
     ensures opened { OnOk result (IsOpen archive.new (D.view disk.new)) }
     ensures usable { OnOk result (NeedsOpening archive.new false) }
     ensures keeps { KeepsWhere (TeachesTrue command.now listener.now (D.view disk.old) id.0
-        progress.old outcome.now) (D.view disk.old) (D.view disk.new) }
+        progress.old conclusion.now) (D.view disk.old) (D.view disk.new) }
     ensures knows { OnOk result (TeachesTrue command.now listener.now (D.view disk.old) id.0
-        progress.old outcome.now
+        progress.old conclusion.now
         → KnowsTrue (D.view disk.old) id.0 (partial_bytes progress.old) []
         → KnowsTrue (D.view disk.new) id.0 (partial_bytes progress.new) []) }
     ensures changes { ChangesOnly id.0 (register_of archive.old) (register_of archive.new) }
@@ -107,16 +107,16 @@ fn settle<D: Disk>(
     ensures must_reopen { OnErr result (NeedsOpening archive.new true) }
     ensures cause { HasDiskCause (D.view disk.old).faults (D.view disk.new).faults result }
 {
-    match *outcome {
-        Outcome::Answer(said) => {
+    match *conclusion {
+        Conclusion::Answer(said) => {
             if said.resp == 0 {
                 return take_heard(archive, disk, id, progress, listener, command, said);
             }
             Ok(())
         }
-        Outcome::Undelivered(_) => Ok(()),
-        Outcome::NoAnswer => Ok(()),
-        Outcome::Flooded => Ok(()),
+        Conclusion::Undelivered(_) => Ok(()),
+        Conclusion::NoAnswer => Ok(()),
+        Conclusion::Flooded => Ok(()),
     }
 }
 
@@ -146,8 +146,7 @@ pub(crate) fn exchange<S: Site>(
     ensures breaks { IfErr result (λ broken. BreaksBy broken command.now limits listener.old
         (S.view site.old).link (S.view site.new).link) }
     ensures ready { OnOk result (IsReady archive.new id.0 progress.new) }
-    ensures opened { OnOk result (IsOpen archive.new (S.view site.new)) }
-    ensures usable { OnOk result (NeedsOpening archive.new false) }
+    ensures goes { OnOk result (Goes archive.new (S.view site.old) (S.view site.new)) }
     ensures listens { OnOk result (Listens listener.new (S.view site.new).link) }
     ensures keeps { KeepsHonest (KnowsTrue (S.view site.old) id.0 (partial_bytes progress.old) [])
         (S.view site.old) (S.view site.new) }
@@ -157,17 +156,15 @@ pub(crate) fn exchange<S: Site>(
     ensures changes { ChangesOnly id.0 (register_of archive.old) (register_of archive.new) }
     ensures broken { IfErr result (λ broken. BrokenBy broken archive.new (S.view site.old)
         (S.view site.new)) }
-    ensures faults { OnOk result (((S.view site.new).faults ≡ (S.view site.old).faults)
-        × ((S.view site.new).link.faults ≡ (S.view site.old).link.faults)) }
     ensures count { listener.new.ear.count ≤ listener.old.ear.count + 2 ^ 25 }
 {
     good_pieces_end_streams();
-    let outcome = match ask(listener, site, limits, command) {
-        Ok(outcome) => outcome,
+    let conclusion = match ask(listener, site, limits, command) {
+        Ok(conclusion) => conclusion,
         Err(Failed) => return Err(Broken::LinkFault),
     };
-    match settle(archive, site, id, progress, listener, command, &outcome) {
-        Ok(()) => Ok(progress.next(limits.budget, outcome)),
+    match settle(archive, site, id, progress, listener, command, &conclusion) {
+        Ok(()) => Ok(progress.next(limits.budget, conclusion)),
         Err(_) => Err(Broken::DiskFault),
     }
 }

@@ -5,7 +5,8 @@ ghost use Rattle.pb_tdf.specs.declared.fault.TdfFault.TheVariants.{Memory};
 ghost use Rattle.pb_archive.specs.Opened.{IsOpen, register_of};
 ghost use Rattle.pb_archive.specs.Refusals.{NeedsOpening};
 ghost use Rattle.pb_collect.specs.Adding.{Adds, HoldsAtLeast};
-ghost use Rattle.pb_collect.specs.Defining.{DiskLeaves, FaultLeaves, Goes};
+ghost use Rattle.pb_collect.specs.Defining.{DiskKeeps, DiskLeaves, FaultLeaves};
+ghost use Rattle.pb_collect.specs.Exchanges.{Goes};
 ghost use Rattle.pb_collect.specs.Fetching.{Fetched, FetchedUntil, FileReads, FileStops, IsContact, StationCame, StationStops};
 ghost use Rattle.pb_collect.specs.Report.{IsPlaceOf, station_line};
 ghost use Rattle.pb_collect.specs.Tables.{channel};
@@ -90,9 +91,7 @@ fn read_file<D: Disk>(
     ensures goes { OnOk result (Goes archive.new (D.view disk.old) (D.view disk.new)) }
     ensures fault { IfErr result (λ fault. DiskLeaves fault archive.new (D.view disk.old)
         (D.view disk.new)) }
-    ensures holds { HoldsAtLeast (register_of archive.new) (D.view disk.new) }
-    ensures adds { Adds (D.view disk.old) (D.view disk.new) }
-    ensures link { (D.view disk.new).link ≡ (D.view disk.old).link }
+    ensures keeps { DiskKeeps archive.new (D.view disk.old) (D.view disk.new) }
 {
     match Definitions::read(alloc, file) {
         Ok(definitions) => define_all(alloc, archive, disk, report, station, &definitions),

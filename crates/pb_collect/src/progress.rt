@@ -12,7 +12,7 @@ ghost use Rattle.pb_collect.specs.Progress as specs;
 use crate::answer::Said;
 use crate::effect::{Advance, Effect, Effects, TIMED, WHOLE};
 use crate::ending::{End, Next, REDEFINED};
-use pb_ask::Outcome;
+use pb_ask::Conclusion;
 use pb_base::{Layout, Memory, Nsec, RecNo};
 use pb_bmp5::{Fragment, Mode};
 use pb_record::{Added, Partial};
@@ -179,19 +179,19 @@ impl Progress {
     }
 
     /// What comes next after a request ended; at most so many requests are made.
-    pub fn next(&mut self, budget: u32, outcome: Outcome<Said>) -> Next
+    pub fn next(&mut self, budget: u32, conclusion: Conclusion<Said>) -> Next
         requires { self.old.asked ≤ budget }
-        ensures { ends.Comes budget self.old outcome result self.new }
+        ensures { ends.Comes budget self.old conclusion result self.new }
     {
-        match outcome {
-            Outcome::Answer(said) if said.resp == REDEFINED => Next::Stop,
-            Outcome::Answer(said) if said.resp != 0 => Next::Ends(End::Refused(said.resp)),
-            Outcome::Undelivered(code) => Next::Ends(End::Undelivered(code)),
-            Outcome::Flooded => Next::Ends(End::Flooded),
-            Outcome::NoAnswer => Next::Ends(End::NoAnswer),
-            Outcome::Answer(said) if !said.more && !self.is_partial => Next::Ends(End::Done),
-            Outcome::Answer(_) if self.asked == budget => Next::Ends(End::Budget),
-            Outcome::Answer(_) => Next::Ask(self.ask_on()),
+        match conclusion {
+            Conclusion::Answer(said) if said.resp == REDEFINED => Next::Stop,
+            Conclusion::Answer(said) if said.resp != 0 => Next::Ends(End::Refused(said.resp)),
+            Conclusion::Undelivered(code) => Next::Ends(End::Undelivered(code)),
+            Conclusion::Flooded => Next::Ends(End::Flooded),
+            Conclusion::NoAnswer => Next::Ends(End::NoAnswer),
+            Conclusion::Answer(said) if !said.more && !self.is_partial => Next::Ends(End::Done),
+            Conclusion::Answer(_) if self.asked == budget => Next::Ends(End::Budget),
+            Conclusion::Answer(_) => Next::Ask(self.ask_on()),
         }
     }
 

@@ -6,16 +6,16 @@ use pb_base::{Memory, TableNo};
 use std::alloc::Global;
 use std::marker::Model;
 
-/// Why a station's file doesn't come.
+/// Why a request got no answer that serves.
 #[derive(Clone, Copy, Debug, PartialEq, Eq)]
 pub enum Cause {
-    /// A request was sent as often as the limits say, and after each sending the quiet ticks came.
+    /// It was sent as often as the limits say, and after each sending the quiet ticks came, more where the node asked to wait.
     NoAnswer,
-    /// At least 65,536 bytes came after the last sending of a request.
+    /// At least 65,536 bytes came after the last sending, and no answer among them.
     Flooded,
-    /// A request wasn't delivered, for the reason of this code.
+    /// It wasn't delivered, for the reason of this code.
     Undelivered(u8),
-    /// The station refused a request, with this response code.
+    /// The node answered with this response code.
     Refused(u8),
 }
 

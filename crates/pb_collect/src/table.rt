@@ -6,7 +6,7 @@ ghost use Rattle.pb_archive.specs.Opened.{IsOpen, register_of};
 ghost use Rattle.pb_archive.specs.Refusals.{NeedsOpening};
 ghost use Rattle.pb_collect.specs.Changing.{ChangesOnly};
 ghost use Rattle.pb_collect.specs.Commands.{IsCommandOf};
-ghost use Rattle.pb_collect.specs.Exchanges.{BrokenBy};
+ghost use Rattle.pb_collect.specs.Exchanges.{BrokenBy, Goes};
 ghost use Rattle.pb_collect.specs.Heard.{Listens};
 ghost use Rattle.pb_collect.specs.Kept.{Keeps};
 ghost use Rattle.pb_collect.specs.Ends.{asked_once_more};
@@ -85,15 +85,12 @@ fn ask_until_end<S: Site>(
         (point listener.old (S.view site.old).link (asked_once_more progress.old)) (S.view site.new).link) }
     ensures asked { OnOk result ((1 ≤ progress.new.asked) × (progress.new.asked ≤ limits.budget)) }
     ensures ready { OnOk result (IsReady archive.new id.0 progress.new) }
-    ensures opened { OnOk result (IsOpen archive.new (S.view site.new)) }
-    ensures usable { OnOk result (NeedsOpening archive.new false) }
+    ensures goes { OnOk result (Goes archive.new (S.view site.old) (S.view site.new)) }
     ensures listens { OnOk result (Listens listener.new (S.view site.new).link) }
     ensures keeps { Keeps (S.view site.old) (S.view site.new) }
     ensures changes { ChangesOnly id.0 (register_of archive.old) (register_of archive.new) }
     ensures broken { IfErr result (λ broken. BrokenBy broken archive.new (S.view site.old)
         (S.view site.new)) }
-    ensures faults { OnOk result (((S.view site.new).faults ≡ (S.view site.old).faults)
-        × ((S.view site.new).link.faults ≡ (S.view site.old).link.faults)) }
     ensures count { listener.new.ear.count ≤ listener.old.ear.count + 2 ^ 46 }
 {
     let mut mode = progress.ask();
@@ -144,15 +141,12 @@ fn end_of_table<S: Site>(
         → HasStopOf end held) }
     ensures asked { OnOk result ((1 ≤ progress.new.asked) × (progress.new.asked ≤ limits.budget)) }
     ensures there { OnOk result (id.0 < length archive.new.tables) }
-    ensures opened { OnOk result (IsOpen archive.new (S.view site.new)) }
-    ensures usable { OnOk result (NeedsOpening archive.new false) }
+    ensures goes { OnOk result (Goes archive.new (S.view site.old) (S.view site.new)) }
     ensures listens { OnOk result (Listens listener.new (S.view site.new).link) }
     ensures keeps { Keeps (S.view site.old) (S.view site.new) }
     ensures changes { ChangesOnly id.0 (register_of archive.old) (register_of archive.new) }
     ensures broken { IfErr result (λ broken. BrokenBy broken archive.new (S.view site.old)
         (S.view site.new)) }
-    ensures faults { OnOk result (((S.view site.new).faults ≡ (S.view site.old).faults)
-        × ((S.view site.new).link.faults ≡ (S.view site.old).link.faults)) }
     ensures count { listener.new.ear.count ≤ listener.old.ear.count + 2 ^ 46 }
 {
     match ask_until_end(archive, site, listener, progress, tran, limits, id) {
@@ -195,15 +189,12 @@ pub(crate) fn collect_table<S: Site>(
         (S.view site.new).link) }
     ensures table { IfOk result (λ o. o.table ≡ id) }
     ensures there { OnOk result (id.0 < length archive.new.tables) }
-    ensures opened { OnOk result (IsOpen archive.new (S.view site.new)) }
-    ensures usable { OnOk result (NeedsOpening archive.new false) }
+    ensures goes { OnOk result (Goes archive.new (S.view site.old) (S.view site.new)) }
     ensures listens { OnOk result (Listens listener.new (S.view site.new).link) }
     ensures keeps { Keeps (S.view site.old) (S.view site.new) }
     ensures changes { ChangesOnly id.0 (register_of archive.old) (register_of archive.new) }
     ensures broken { IfErr result (λ broken. BrokenBy broken archive.new (S.view site.old)
         (S.view site.new)) }
-    ensures faults { OnOk result (((S.view site.new).faults ≡ (S.view site.old).faults)
-        × ((S.view site.new).link.faults ≡ (S.view site.old).link.faults)) }
     ensures count { listener.new.ear.count ≤ listener.old.ear.count + 2 ^ 46 }
 {
     let before = state_of(archive, id);

@@ -80,7 +80,8 @@ fn take_fragment<D: Disk>(
     ensures opened { OnOk result (IsOpen archive.new (D.view disk.new)) }
     ensures usable { OnOk result (NeedsOpening archive.new false) }
     ensures keeps { (fs : List SeenFragment) → KeepsWhere
-        (KnowsTrue (D.view disk.old) id.0 (partial_bytes progress.old) (seen_of fragment.now ∷ fs)) (D.view disk.old) (D.view disk.new) }
+        (KnowsTrue (D.view disk.old) id.0 (partial_bytes progress.old) (seen_of fragment.now ∷ fs))
+        (D.view disk.old) (D.view disk.new) }
     ensures knows { OnOk result ((fs : List SeenFragment)
         → KnowsTrue (D.view disk.old) id.0 (partial_bytes progress.old) (seen_of fragment.now ∷ fs)
         → KnowsTrue (D.view disk.new) id.0 (partial_bytes progress.new) fs) }

@@ -3,7 +3,7 @@ ghost use Rattle.std.specs.Prelude.{◌≡◌, ◌≤◌, ◌^◌, ◌<◌};
 ghost use Rattle.pb_collect.specs.Progress as specs;
 
 use super::*;
-use pb_ask::Outcome;
+use pb_ask::Conclusion;
 use pb_base::{Layout, Nsec, RecNo, TableNo};
 use pb_bmp5::{Fragments, Mode, read_collect};
 use std::alloc::Global;
@@ -100,7 +100,7 @@ fn goes(alloc: Global, front: u32, budget: u32, rows: &[Row]) -> Result<bool, Fa
                 }
             }
             Some((said, is_right)) => {
-                let next = progress.next(budget, Outcome::Answer(said));
+                let next = progress.next(budget, Conclusion::Answer(said));
                 if !is_right || *wanted != Some(next) {
                     return Ok(false);
                 }

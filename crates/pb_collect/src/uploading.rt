@@ -13,7 +13,7 @@ ghost use Rattle.pb_collect.specs.Uploads.{HoldsReply, PieceStops, StepIs, Uploa
 use crate::command::Contact;
 use crate::report::Cause;
 use crate::upload::{FileReply, UploadCommand};
-use pb_ask::{Listener, Outcome, law_message};
+use pb_ask::{Conclusion, Listener, law_message};
 use pb_bmp5::Bmp5;
 use pb_io::{Failed, Site};
 use pb_tdf::FILE_BYTES_MAX;
@@ -39,16 +39,16 @@ fn ask_piece<S: Site>(
     site: &mut S,
     limits: Limits,
     command: &UploadCommand,
-) -> Result<Outcome<FileReply>, Failed>
+) -> Result<Conclusion<FileReply>, Failed>
     requires sends { 1 ≤ limits.sends }
     requires quiets { 1 ≤ limits.quiets }
     requires count { listener.old.ear.count ≤ 2 ^ 61 }
-    ensures asks { IfOk result (λ outcome. Asks (wanted_piece command.now) limits listener.old
-        (S.view site.old).link outcome listener.new (S.view site.new).link) }
+    ensures asks { IfOk result (λ conclusion. Asks (wanted_piece command.now) limits listener.old
+        (S.view site.old).link conclusion listener.new (S.view site.new).link) }
     ensures stops { OnErr result (Stops (wanted_piece command.now) limits listener.old
         (S.view site.old).link listener.new
         (S.view site.new).link) }
-    ensures holds { IfOk result (λ outcome. HoldsReply command.now outcome listener.new) }
+    ensures holds { IfOk result (λ conclusion. HoldsReply command.now conclusion listener.new) }
     ensures adds { Adds (S.view site.old) (S.view site.new) }
     ensures disk { ReadsOnly (S.view site.old) (S.view site.new) }
     ensures disk_faults { (S.view site.new).faults ≡ (S.view site.old).faults }
@@ -57,8 +57,8 @@ fn ask_piece<S: Site>(
 {
     command.asks_no_records();
     law_message::<UploadCommand>();
-    let outcome = listener.ask(site, limits, command)?;
-    Ok(outcome)
+    let conclusion = listener.ask(site, limits, command)?;
+    Ok(conclusion)
 }
 
 // The bytes that an answer brings.
@@ -83,7 +83,7 @@ fn bytes_in<'a>(command: &UploadCommand, message: &'a [u8]) -> &'a [u8]
 
 // Adds the bytes of the answer at hand to those joined so far, and says how many there are.
 fn join(listener: &Listener, command: &UploadCommand, file: &mut Vec<u8>) -> usize
-    requires holds { HoldsReply command.now (Outcome.Answer FileReply.Data) listener.now }
+    requires holds { HoldsReply command.now (Conclusion.Answer FileReply.Data) listener.now }
     requires room { length file.old.items + 1000 ≤ vec_capacity file.old }
     ensures joined { (bytes : List ℕ) × (file.new.items ≡ file.old.items ++ bytes)
         × (result ≡ length bytes)
@@ -132,17 +132,17 @@ fn next_piece<S: Site>(
     *tran = tran.wrapping_add(1);
     match ask_piece(listener, site, limits, &command) {
         Err(Failed) => Err(Failed),
-        Ok(Outcome::Answer(FileReply::Data)) => {
+        Ok(Conclusion::Answer(FileReply::Data)) => {
             if join(listener, &command, file) == 0 {
                 Ok(Step::Ends)
             } else {
                 Ok(Step::Came)
             }
         }
-        Ok(Outcome::Answer(FileReply::Refused(code))) => Ok(Step::Fails(Cause::Refused(code))),
-        Ok(Outcome::Undelivered(code)) => Ok(Step::Fails(Cause::Undelivered(code))),
-        Ok(Outcome::NoAnswer) => Ok(Step::Fails(Cause::NoAnswer)),
-        Ok(Outcome::Flooded) => Ok(Step::Fails(Cause::Flooded)),
+        Ok(Conclusion::Answer(FileReply::Refused(code))) => Ok(Step::Fails(Cause::Refused(code))),
+        Ok(Conclusion::Undelivered(code)) => Ok(Step::Fails(Cause::Undelivered(code))),
+        Ok(Conclusion::NoAnswer) => Ok(Step::Fails(Cause::NoAnswer)),
+        Ok(Conclusion::Flooded) => Ok(Step::Fails(Cause::Flooded)),
     }
 }
 

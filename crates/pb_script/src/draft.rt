@@ -38,9 +38,23 @@ impl Model for Draft {
 
     ghost Value = { Script };
 
-    ghost view = { λ d. record { me = d.me; name = d.station.name; addr = d.station.addr; code = d.station.code; tables = d.tables.items; storing = d.storing } };
+    ghost view = { λ d. record {
+      me = d.me;
+      name = d.station.name;
+      addr = d.station.addr;
+      code = d.station.code;
+      tables = d.tables.items;
+      storing = d.storing;
+    } };
 
-    ghost invariant = { λ d. IsScript (record { me = d.me; name = d.station.name; addr = d.station.addr; code = d.station.code; tables = d.tables.items; storing = d.storing })
+    ghost invariant = { λ d. IsScript (record {
+      me = d.me;
+      name = d.station.name;
+      addr = d.station.addr;
+      code = d.station.code;
+      tables = d.tables.items;
+      storing = d.storing;
+    })
         × (d.used ≡ all_ring_bytes d.tables.items) };
 }
 

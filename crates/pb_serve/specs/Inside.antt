@@ -57,16 +57,19 @@ abbrev pub work : Kept → ℕ
 work k = (k.goal - k.good) * (FLOOD + 1) + (FLOOD - k.since)
 
 -- from one moment to another, at which these bytes wait, or to an end
-pub record Leads (first : station.State) (goal : ℕ) (w : World) (link_old link_new : Link) (result : Option End) (new : Kept) (waiting : List ℕ) : Type 0 where
+pub record Leads (first : station.State) (goal : ℕ) (w : World) (link_old link_new : Link) (result : Option End) (new : Kept)
+    (waiting : List ℕ) : Type 0 where
   pub more : World
   pub grows : GrowsBy link_old.world link_new.world more
   pub leads : MatchOption result (Stands first new (w ++ more) waiting) (λ end. Ends first goal (w ++ more) end)
 
 -- from a moment at which nothing waits on, what came of one call is judged
-pub record Takes (first : station.State) (goal : ℕ) (w : World) (bytes : List ℕ) (link_old link_new : Link) (result : Option End) (new : Kept) : Type 0 where
+pub record Takes (first : station.State) (goal : ℕ) (w : World) (bytes : List ℕ) (link_old link_new : Link) (result : Option End)
+    (new : Kept) : Type 0 where
   pub more : World
   pub grows : GrowsBy link_old.world link_new.world more
-  pub leads : MatchOption result (Stands first new (w ++ (arrival bytes ++ more)) []) (λ end. Ends first goal (w ++ (arrival bytes ++ more)) end)
+  pub leads : MatchOption result (Stands first new (w ++ (arrival bytes ++ more)) [])
+      (λ end. Ends first goal (w ++ (arrival bytes ++ more)) end)
 
 -- a failed call is counted, and ends it
 pub record Counts (result : Option End) (before now : ℕ) : Type 0 where
@@ -85,7 +88,8 @@ answered hearing kept k = record k { ear = hearing; station = kept; good = k.goo
 -- what is owed for a content was sent; a call that failed sent it or not
 abbrev pub SendsOwed : List (List ℕ) → Option World → Option World → Result Unit Failed → Type 0
 SendsOwed frames old new (Ok sent) = GrowsBy old new (map Sent frames)
-SendsOwed frames old new (Err failed) = (frame : List ℕ) × (frames ≡ frame ∷ []) × (GrowsBy old new (Sent frame ∷ []) ⊎ GrowsBy old new [])
+SendsOwed frames old new (Err failed) =
+    (frame : List ℕ) × (frames ≡ frame ∷ []) × (GrowsBy old new (Sent frame ∷ []) ⊎ GrowsBy old new [])
 
 -- what stays: it is to hear as many good frames, and, where no end came, goes on with so much less to come
 pub record GoesOn (result : Option End) (n : ℕ) (old new : Kept) : Type 0 where
@@ -98,7 +102,8 @@ pub record GoesOn (result : Option End) (n : ℕ) (old new : Kept) : Type 0 wher
 -- what the first of the bytes that wait leads to
 abbrev pub LeadsByte : ℕ → Kept → Link → Link → Option End → Kept → Type 0
 LeadsByte byte old link_old link_new result new =
-    (first : station.State) (w : World) (rest : List ℕ) → Stands first old w (byte ∷ rest) → Leads first old.goal w link_old link_new result new rest
+    (first : station.State) (w : World) (rest : List ℕ) → Stands first old w (byte ∷ rest)
+    → Leads first old.goal w link_old link_new result new rest
 
 -- the most calls that are still to come
 abbrev pub calls : Kept → ℕ

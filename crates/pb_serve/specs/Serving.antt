@@ -104,4 +104,5 @@ pub record AllSent (first : State) (w : World) (m : Moment) : Type 0 where
 
 -- Before a quiet tick all is judged, and sent, that came before it.
 abbrev pub SentInTime : State → World → Type 0
-SentInTime first w = (before after : World) → w ≡ before ++ Quiet ∷ after → sent before ≡ (all_owed first (contents (bytes_heard before))).frames
+SentInTime first w =
+    (before after : World) → w ≡ before ++ Quiet ∷ after → sent before ≡ (all_owed first (contents (bytes_heard before))).frames

@@ -60,9 +60,23 @@ impl Model for Server {
 
     ghost Value = { Kept };
 
-    ghost view = { λ s. record { ear = s.ear; station = s.station; goal = s.goal; good = s.good; since = s.since; quiets = s.quiets } };
+    ghost view = { λ s. record {
+      ear = s.ear;
+      station = s.station;
+      goal = s.goal;
+      good = s.good;
+      since = s.since;
+      quiets = s.quiets;
+    } };
 
-    ghost invariant = { λ s. IsKept (record { ear = s.ear; station = s.station; goal = s.goal; good = s.good; since = s.since; quiets = s.quiets }) };
+    ghost invariant = { λ s. IsKept (record {
+      ear = s.ear;
+      station = s.station;
+      goal = s.goal;
+      good = s.good;
+      since = s.since;
+      quiets = s.quiets;
+    }) };
 }
 
 impl Server {

@@ -8,7 +8,7 @@ use Rattle.pb_archive.specs.Refusals.{OpenRefuses}
 use Rattle.pb_archive.specs.declared.fault.ArchiveFault.{ArchiveFault}
 use Rattle.pb_archive.specs.declared.held.Held.{Held}
 use Rattle.pb_collect.specs.Complete.{Completes}
-use Rattle.pb_collect.specs.Kept.{AllGoOnFrom}
+use Rattle.pb_collect.specs.Kept.{AllGoOnBy, StaysOrCollects}
 use Rattle.pb_collect.specs.Round.{AreInOrder, AsksBy, FrontsStand, Reaches, RoundIs}
 use Rattle.pb_collect.specs.declared.collector.RoundResult.{RoundResult}
 use Rattle.pb_collect.specs.declared.collector.RoundResult.TheVariants as round
@@ -114,7 +114,7 @@ round_text r = report_text r.after.plan r.after.tables r.outcomes ++ fault_line 
 pub record Collects (budget : ℕ) (r : Round) (old new : View) : Type 0 where
   pub kept : ForSome old.file (IsKeptOf r.before)
   pub came : Came budget r old new
-  pub goes_on : AllGoOnFrom old.file new
+  pub goes_on : AllGoOnBy StaysOrCollects old.file new
   pub complete : Completes r.result budget r.before r.outcomes old new
 
 abbrev pub Means : ℕ → Result Round ArchiveFault → View → View → Type 0
@@ -136,7 +136,8 @@ pub record RanCollect (budget : ℕ) (result : Status) (before after : View) (ou
   pub printed : Closes (answer_status answer) result (answer_text answer) out_before.written out_after.written
 
 -- a round over an archive that is open
-pub record RanRound (budget : ℕ) (result : Status) (first : Register) (before after : View) (out_before out_after : Output) : Type 0 where
+pub record RanRound (budget : ℕ) (result : Status) (first : Register) (before after : View)
+    (out_before out_after : Output) : Type 0 where
   pub round : Round
   pub is : round.before ≡ first
   pub came : Came budget round before after

@@ -6,18 +6,19 @@ use Rattle.pb_archive.specs.Opened.{Register}
 use Rattle.pb_archive.specs.Plan.{Plan}
 use Rattle.pb_archive.specs.Refusals.{OpenRefuses}
 use Rattle.pb_archive.specs.declared.fault.ArchiveFault.{ArchiveFault}
-use Rattle.pb_collect.specs.Adding.{AllGrowFrom, HoldsAtLeast}
+use Rattle.pb_collect.specs.Adding.{HoldsAtLeast, StaysOrGrows}
+use Rattle.pb_collect.specs.Kept.{AllGoOnBy}
 use Rattle.pb_collect.specs.Fetching.{AddedStand, Fetched, FetchedUntil}
 use Rattle.pb_collect.specs.declared.fault.DefsFault.{DefsFault}
 use Rattle.pb_collect.specs.declared.fault.DefsFault.TheVariants as fault
 use Rattle.pb_collect.specs.declared.report.Cause.{Cause}
-use Rattle.pb_collect.specs.declared.report.Cause.TheVariants.{NoAnswer, Flooded, Undelivered, Refused}
 use Rattle.pb_collect.specs.declared.report.DefsLine.{DefsLine}
 use Rattle.pb_collect.specs.declared.report.DefsWhat.{DefsWhat}
 use Rattle.pb_collect.specs.declared.report.DefsWhat.TheVariants.{Added, Same, Redefined, NotText, NotFull, Failed, Bad}
 use Rattle.pb_io.specs.Outside.{Output}
 use Rattle.pb_io.specs.Page.{joined}
 use Rattle.pb_io.specs.View.{View}
+use Rattle.pb_tool.specs.CauseText.{cause_text}
 use Rattle.pb_tool.specs.Check.{IsKeptOf, station_name}
 use Rattle.pb_tool.specs.Closing.{Closes}
 use Rattle.pb_tool.specs.Collect.{limits_of, signature_text}
@@ -27,12 +28,6 @@ use Rattle.pb_tool.specs.declared.status.Status.TheVariants as status
 use Rattle.pb_value.specs.Escape.{name_text}
 
 -- ---- what is printed
-
-unfoldable pub cause_text : Cause → List ℕ
-cause_text NoAnswer = codes "no answer"
-cause_text Flooded = codes "flooded"
-cause_text (Undelivered code) = joined (codes "undelivered " ∷ decimal code ∷ [])
-cause_text (Refused code) = joined (codes "refused " ∷ decimal code ∷ [])
 
 -- ` TABLE NUMBER SIGNATURE WHAT`
 unfoldable pub table_text : DefsLine → List ℕ → List ℕ
@@ -123,7 +118,7 @@ reading_status r = result_status r.result (has_starred r.lines)
 pub record Reads (r : Reading) (old new : View) : Type 0 where
   pub kept : ForSome old.file (IsKeptOf r.before)
   pub came : Came r old new
-  pub goes_on : AllGrowFrom old.file new
+  pub goes_on : AllGoOnBy StaysOrGrows old.file new
 
 abbrev pub Means : Result Reading ArchiveFault → View → View → Type 0
 Means (Ok r) old new = Reads r old new

@@ -1,3 +1,4 @@
+pub mod CauseText
 pub mod Causes
 pub mod Check
 pub mod Closing

@@ -1,16 +1,16 @@
 -- What `ping` prints, and its status, by its answer.
 use Rattle.std.specs.Prelude.{◌≡◌, ℕ, List, [], ◌∷◌, ◌++◌, Result, Ok, Err, codes, decimal}
 use Rattle.pb_base.specs.declared.nsec.Nsec.{Nsec}
+use Rattle.pb_collect.specs.declared.report.Cause.{Cause}
 use Rattle.pb_io.specs.Faults.{Rose}
 use Rattle.pb_io.specs.Outside.{Talk}
 use Rattle.pb_io.specs.Page.{joined}
 use Rattle.pb_tool.specs.declared.ping.answer.Pinged.{Pinged}
-use Rattle.pb_tool.specs.declared.ping.answer.Cause.{Cause}
-use Rattle.pb_tool.specs.declared.ping.answer.Cause.TheVariants.{NoAnswer, Flooded, Undelivered, Refused}
 use Rattle.pb_tool.specs.declared.ping.answer.PingFault.{PingFault}
 use Rattle.pb_tool.specs.declared.ping.answer.PingFault.TheVariants as fault
 use Rattle.pb_tool.specs.declared.status.Status.{Status}
 use Rattle.pb_tool.specs.declared.status.Status.TheVariants as status
+use Rattle.pb_tool.specs.CauseText.{cause_text}
 use Rattle.pb_tool.specs.Ping.{Pinging}
 use Rattle.pb_tool.specs.Closing.{Closes}
 use Rattle.pb_value.specs.TimeText.{time_text}
@@ -24,12 +24,6 @@ hello_text node router metric verify = joined (
 -- `clock NODE TIME`
 unfoldable pub clock_text : ℕ → Nsec → List ℕ
 clock_text node time = joined (codes "clock " ∷ decimal node ∷ codes " " ∷ time_text time ∷ codes "\n" ∷ [])
-
-unfoldable pub cause_text : Cause → List ℕ
-cause_text NoAnswer = codes "no answer"
-cause_text Flooded = codes "flooded"
-cause_text (Undelivered c) = joined (codes "undelivered " ∷ decimal c ∷ [])
-cause_text (Refused c) = joined (codes "refused " ∷ decimal c ∷ [])
 
 -- `hello NODE CAUSE`
 unfoldable pub no_hello_text : ℕ → Cause → List ℕ

@@ -6,10 +6,11 @@ ghost use Rattle.pb_io.specs.Outside.{output_view};
 ghost use Rattle.pb_io.specs.Page.{Adds, printing};
 ghost use Rattle.pb_tool.specs.Causes.{Counts};
 ghost use Rattle.pb_tool.specs.Closing.{Closes};
-ghost use Rattle.pb_tool.specs.Defs.{RanDefs, RanReading, broken_line, cause_text, fault_line, has_starred, failed_text, is_starred, line_text, redefined_text, report_text, rest_text, result_status, table_text};
+ghost use Rattle.pb_tool.specs.Defs.{RanDefs, RanReading, broken_line, fault_line, has_starred, failed_text, is_starred, line_text, redefined_text, report_text, rest_text, result_status, table_text};
 ghost use Rattle.pb_tool.specs.Refusal.{refusal_status, refusal_text};
 
 use crate::Status;
+use crate::cause::push_cause;
 use crate::check::name_of;
 use crate::closing::finish;
 use crate::collect::{QUIETS, SENDS};
@@ -211,25 +212,6 @@ fn push_failed<O: Sink>(page: &mut Page, cause: Cause, out: &mut O)
     page.push(b" - ", out);
     push_cause(page, cause, out);
     page.push(b"\n", out);
-}
-
-#[tactic(auto, unfolding(crate::specs::Defs::cause_text))]
-fn push_cause<O: Sink>(page: &mut Page, cause: Cause, out: &mut O)
-    ensures { Adds (cause_text cause) (printing O.Sink page.old out.old)
-        (printing O.Sink page.new out.new) }
-{
-    match cause {
-        Cause::NoAnswer => page.push(b"no answer", out),
-        Cause::Flooded => page.push(b"flooded", out),
-        Cause::Undelivered(code) => page.put(
-            &[Part::Text(b"undelivered "), Part::Number(u64::from(code))],
-            out,
-        ),
-        Cause::Refused(code) => page.put(
-            &[Part::Text(b"refused "), Part::Number(u64::from(code))],
-            out,
-        ),
-    }
 }
 
 #[cfg(test)]

@@ -51,7 +51,8 @@ fn put_named<S: Site, O: Sink>(
     requires usable { NeedsOpening archive.now false }
     requires opened { IsOpen archive.now (S.view site.old) }
     ensures exports { ExportsNamed (asked_by asked.entry) (register_of archive.now)
-        (first_named archive.now asked.entry.station.now asked.entry.table.now) result (talk S.Disk O.Sink site.old out.old) (talk S.Disk O.Sink site.new out.new) }
+        (first_named archive.now asked.entry.station.now asked.entry.table.now) result
+        (talk S.Disk O.Sink site.old out.old) (talk S.Disk O.Sink site.new out.new) }
     ensures file { (S.view site.new).file ≡ (S.view site.old).file }
     ensures leaves { Leaves Same (S.view site.old) (S.view site.new) }
     ensures link { (S.view site.new).link ≡ (S.view site.old).link }

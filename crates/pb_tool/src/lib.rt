@@ -1,6 +1,7 @@
 //! The commands of `pakbus`, over any site, source and sink.
 #![tactic(auto)]
 
+mod cause;
 mod check;
 mod closing;
 mod collect;

@@ -1,5 +1,6 @@
 //! What comes of a ping.
 use pb_base::Nsec;
+use pb_collect::Cause;
 
 /// What a node answered to a ping.
 #[derive(Clone, Copy, Debug, PartialEq, Eq)]
@@ -12,19 +13,6 @@ pub struct Pinged {
     pub verify: u16,
     /// The node's time.
     pub time: Nsec,
-}
-
-/// Why a request got no answer that serves.
-#[derive(Clone, Copy, Debug, PartialEq, Eq)]
-pub enum Cause {
-    /// It was sent three times, and after each the quiet ticks came: five, and more where the node asked to wait.
-    NoAnswer,
-    /// At least 65,536 bytes came after the last sending, and no answer among them.
-    Flooded,
-    /// It wasn't delivered, with this code.
-    Undelivered(u8),
-    /// The node answered with this code.
-    Refused(u8),
 }
 
 /// Why a ping failed.

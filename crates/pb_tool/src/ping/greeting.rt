@@ -5,10 +5,11 @@ ghost use Rattle.pb_io.specs.Faults.{Rose};
 ghost use Rattle.pb_io.specs.View.{LeavesOnly};
 ghost use Rattle.pb_tool.specs.Ping.{Greets, Pinging, answered, concluded};
 
-use crate::ping::answer::{Cause, PingFault, Pinged};
+use crate::ping::answer::{PingFault, Pinged};
 use crate::ping::questions::{ClockOf, Greeting, HelloTo, Reading};
-use pb_ask::{Listener, Outcome};
+use pb_ask::{Conclusion, Listener};
 use pb_base::NodeId;
+use pb_collect::Cause;
 use pb_io::{Failed, Site};
 use pb_trans::Limits;
 
@@ -48,19 +49,19 @@ pub fn ping<S: Site>(site: &mut S, me: NodeId, node: NodeId) -> Result<Pinged, P
 }
 
 // The answer, or why there is none.
-fn answer_of<A>(outcome: Outcome<A>) -> Result<A, Cause>
-    ensures { result ≡ answered outcome }
+fn answer_of<A>(conclusion: Conclusion<A>) -> Result<A, Cause>
+    ensures { result ≡ answered conclusion }
 {
-    match outcome {
-        Outcome::Answer(answer) => Ok(answer),
-        Outcome::NoAnswer => Err(Cause::NoAnswer),
-        Outcome::Flooded => Err(Cause::Flooded),
-        Outcome::Undelivered(code) => Err(Cause::Undelivered(code)),
+    match conclusion {
+        Conclusion::Answer(answer) => Ok(answer),
+        Conclusion::NoAnswer => Err(Cause::NoAnswer),
+        Conclusion::Flooded => Err(Cause::Flooded),
+        Conclusion::Undelivered(code) => Err(Cause::Undelivered(code)),
     }
 }
 
 // What the ping comes to after an answered hello, by what came of the clock command.
-fn conclude(greeting: Greeting, timed: Outcome<Reading>) -> Result<Pinged, PingFault>
+fn conclude(greeting: Greeting, timed: Conclusion<Reading>) -> Result<Pinged, PingFault>
     ensures { result ≡ concluded greeting timed }
 {
     let Greeting {

@@ -6,14 +6,16 @@ ghost use Rattle.pb_io.specs.Page.{Adds, printing};
 ghost use Rattle.pb_io.specs.View.{LeavesOnly};
 ghost use Rattle.pb_tool.specs.Causes.{Counts};
 ghost use Rattle.pb_tool.specs.Ping.{Greets};
-ghost use Rattle.pb_tool.specs.PingText.{hello_text, clock_text, cause_text, no_hello_text, no_clock_text, fault_text, ping_text, ping_status, RanPing};
+ghost use Rattle.pb_tool.specs.PingText.{hello_text, clock_text, no_hello_text, no_clock_text, fault_text, ping_text, ping_status, RanPing};
 ghost use Rattle.pb_value.specs.TimeText.{time_text};
 
 use crate::Status;
+use crate::cause::push_cause;
 use crate::closing::finish;
-use crate::ping::answer::{Cause, PingFault, Pinged};
+use crate::ping::answer::{PingFault, Pinged};
 use crate::ping::greeting::ping;
 use pb_base::{NodeId, Nsec};
+use pb_collect::Cause;
 use pb_io::{Page, Part, Sink, Site};
 use pb_value::{TIME_TEXT_MAX, time_into};
 
@@ -151,23 +153,4 @@ fn push_no_clock<O: Sink>(page: &mut Page, node: u16, cause: Cause, out: &mut O)
     );
     push_cause(page, cause, out);
     page.push(b"\n", out);
-}
-
-#[tactic(auto, unfolding(crate::specs::PingText::cause_text))]
-fn push_cause<O: Sink>(page: &mut Page, cause: Cause, out: &mut O)
-    ensures { Adds (cause_text cause) (printing O.Sink page.old out.old)
-        (printing O.Sink page.new out.new) }
-{
-    match cause {
-        Cause::NoAnswer => page.push(b"no answer", out),
-        Cause::Flooded => page.push(b"flooded", out),
-        Cause::Undelivered(code) => page.put(
-            &[Part::Text(b"undelivered "), Part::Number(u64::from(code))],
-            out,
-        ),
-        Cause::Refused(code) => page.put(
-            &[Part::Text(b"refused "), Part::Number(u64::from(code))],
-            out,
-        ),
-    }
 }

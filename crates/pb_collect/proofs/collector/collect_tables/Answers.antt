@@ -9,7 +9,7 @@ use Rattle.pb_collect.specs.Round.{AllEnd, AreInOrder}
 use Rattle.pb_collect.specs.Tables.{BreaksOff, CameOut, channel}
 use Rattle.pb_collect.specs.declared.outcome.Outcome.{Outcome}
 use Rattle.pb_collect.proofs.KeptLemmas.{keeps_none, keeps_trans}
-use Rattle.pb_collect.proofs.RequestLemmas.{get_there}
+use Rattle.pb_collect.proofs.RequestLemmas.{get_there, goes_start, goes_trans}
 use Rattle.pb_collect.proofs.RoundLemmas.{Reached, all_push, ends_next, fronts_later, fronts_now, length-pushed, listens_new, order_push, reached_all, reached_begun, reached_next, reached_none}
 use Rattle.pb_collect.proofs.collector.collect_tables.Goals as goal
 
@@ -24,12 +24,9 @@ tables-init g c =
       order = subst (λ (l : List Outcome). AreInOrder 0 l) (sym none) tt;
       reached = reached_none c.args.outcomes.now.items (register_of c.args.archive.now) none;
       asks = subst (λ (l : List Outcome). AllEnd c.args.limits (register_of c.args.archive.now) l (channel c.new-listener.result now.link) (channel c.new-listener.result now.link)) (sym none) refl;
-      opened = c.requires.opened;
-      usable = c.requires.usable;
+      goes = goes_start c.args.archive.now now c.requires.usable c.requires.opened;
       listens = listens_new c.new-listener.result now.link c.new-listener.ensures.nothing c.new-listener.ensures.stands;
       keeps = keeps_none now (g.met.S.Disk.lawful c.args.site.now);
-      faults = refl;
-      link_faults = refl;
       count = omega (arith, c.new-listener.ensures.count);
     }
 
@@ -64,12 +61,9 @@ tables-preserved g c =
       reached = subst (λ (l : List Outcome). Reached l first after) (sym items)
           (reached_next os first before after inv.reached (subst (λ n. ChangesOnly n before after) place c.collect_table.ensures.changes) o came);
       asks = subst (λ (l : List Outcome). AllEnd c.args.limits first l from to) (sym items) (all_push c.args.limits first os o from mid to inv.asks ends);
-      opened = e.opened;
-      usable = e.usable;
+      goes = goes_trans c.tables.archive c.collect_table.new.archive old now new inv.goes e.goes;
       listens = e.listens;
       keeps = keeps_trans old now new (g.met.S.Disk.lawful c.tables.site) inv.keeps c.collect_table.ensures.keeps;
-      faults = e.faults.0 ∙ inv.faults;
-      link_faults = e.faults.1 ∙ inv.link_faults;
       count = omega (arith, more, inv.count, e.count);
     }
 
@@ -92,7 +86,7 @@ returns-in-Err-clause-fronts g c =
     let first = register_of c.args.archive.now in
     let now = g.S.Disk.view c.tables.site in
     fronts_later os now (g.S.Disk.view c.collect_table.new.site) (g.met.S.Disk.lawful c.collect_table.new.site) c.collect_table.ensures.keeps.leaves
-    (fronts_now os first c.tables.archive now (omega (arith, inv.within, inv.reached.count)) inv.opened (reached_all os first (register_of c.tables.archive) inv.reached))
+    (fronts_now os first c.tables.archive now (omega (arith, inv.within, inv.reached.count)) inv.goes.opened (reached_all os first (register_of c.tables.archive) inv.reached))
 
 pub returns-clause-reaches : goal.returns-clause-reaches
 returns-clause-reaches g c = reached_all c.tables.outcomes.items (register_of c.args.archive.now) (register_of c.tables.archive) c.tables.invariant.reached
@@ -111,7 +105,7 @@ returns-clause-fronts g c =
     let inv = c.tables.invariant in
     let os = c.tables.outcomes.items in
     let first = register_of c.args.archive.now in
-    fronts_now os first c.tables.archive (g.S.Disk.view c.tables.site) (omega (arith, inv.within, inv.reached.count)) inv.opened (reached_all os first (register_of c.tables.archive) inv.reached)
+    fronts_now os first c.tables.archive (g.S.Disk.view c.tables.site) (omega (arith, inv.within, inv.reached.count)) inv.goes.opened (reached_all os first (register_of c.tables.archive) inv.reached)
 
 pub returns-in-Err-clause-short : goal.returns-in-Err-clause-short
 returns-in-Err-clause-short g c =

@@ -1,7 +1,7 @@
-use Rattle.std.proofs.Common.{◌≡◌, ◌-◌, ◌*◌, ◌^◌, ◌≤◌, false, length, vec_capacity}
+use Rattle.std.proofs.Common.{◌≡◌, ◌-◌, ◌*◌, ◌^◌, ◌≤◌, length, vec_capacity}
 use Rattle.pb_archive.specs.Entry.{tables_max}
-use Rattle.pb_archive.specs.Opened.{IsOpen, register_of}
-use Rattle.pb_archive.specs.Refusals.{NeedsOpening}
+use Rattle.pb_archive.specs.Opened.{register_of}
+use Rattle.pb_collect.specs.Exchanges.{Goes}
 use Rattle.pb_collect.specs.Heard.{Listens}
 use Rattle.pb_collect.specs.Kept.{Keeps}
 use Rattle.pb_collect.specs.Round.{AllEnd, AreInOrder}
@@ -17,12 +17,9 @@ invariant-tables g l = record {
   order : AreInOrder 0 l.outcomes.items;
   reached : Reached l.outcomes.items (register_of l.fn.archive) (register_of l.archive);
   asks : AllEnd l.limits (register_of l.fn.archive) l.outcomes.items (channel l.initial.listener (g.S.Disk.view l.fn.site).link) (channel l.listener (g.S.Disk.view l.site).link);
-  opened : IsOpen l.archive (g.S.Disk.view l.site);
-  usable : NeedsOpening l.archive false;
+  goes : Goes l.archive (g.S.Disk.view l.fn.site) (g.S.Disk.view l.site);
   listens : Listens l.listener (g.S.Disk.view l.site).link;
   keeps : Keeps (g.S.Disk.view l.fn.site) (g.S.Disk.view l.site);
-  faults : (g.S.Disk.view l.site).faults ≡ (g.S.Disk.view l.fn.site).faults;
-  link_faults : (g.S.Disk.view l.site).link.faults ≡ (g.S.Disk.view l.fn.site).link.faults;
   count : l.listener.ear.count ≤ length l.outcomes.items * 2 ^ 46;
 }
 

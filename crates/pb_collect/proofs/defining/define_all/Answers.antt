@@ -7,11 +7,11 @@ use Rattle.pb_tdf.specs.View.{TableView}
 use Rattle.pb_archive.specs.Plan.{Plan}
 use Rattle.pb_archive.specs.Opened.{OpenArchive, Register, register_of}
 use Rattle.pb_io.specs.View.{View}
-use Rattle.pb_collect.specs.Defining.{Goes, TableCame, TablesCame}
+use Rattle.pb_collect.specs.Defining.{TableCame, TablesCame}
 use Rattle.pb_collect.specs.declared.report.DefsLine.{DefsLine as Line}
-use Rattle.pb_collect.proofs.AddingLemmas.{adds_none, adds_trans, holds_open}
+use Rattle.pb_collect.proofs.AddingLemmas.{disk_none, disk_trans}
 use Rattle.pb_collect.proofs.DefiningLemmas.{came_plan}
-use Rattle.pb_collect.proofs.RequestLemmas.{get_there}
+use Rattle.pb_collect.proofs.RequestLemmas.{get_there, goes_start, goes_trans}
 use Rattle.pb_collect.proofs.defining.define_all.Goals as goal
 
 some_there : {A : Type 0} (r : Option (Bor A)) (x : A) → option_copied r ≡ Some x → IsSome r
@@ -37,25 +37,20 @@ next_came station tables n t before mid after old now new came there next = (
       (came.0, next.0, t, mid, refl, came.2, there, subst (λ k. TableCame station k t next.0 mid after) (add-one n) next.2),
 )
 
-goes_trans : (o p : OpenArchive) (a b c : View) → Goes o a b → Goes p b c → Goes p a c
-goes_trans o p a b c x y = record { usable = y.usable; opened = y.opened; faults = y.faults ∙ x.faults; link_faults = y.link_faults ∙ x.link_faults }
-
 pub loop-n-init : goal.loop-n-init
 loop-n-init g c = record {
   there = c.requires.there;
   came = ([], sym (append-nil c.args.report.now.lines), (refl, refl));
-  goes = record { usable = c.requires.usable; opened = c.requires.opened; faults = refl; link_faults = refl };
-  holds = holds_open c.args.archive.now (g.D.Disk.view c.args.disk.now) c.requires.opened;
-  adds = adds_none (g.D.Disk.view c.args.disk.now) (g.met.D.Disk.lawful c.args.disk.now);
-  link = refl;
+  goes = goes_start c.args.archive.now (g.D.Disk.view c.args.disk.now) c.requires.usable c.requires.opened;
+  keeps = disk_none c.args.archive.now (g.D.Disk.view c.args.disk.now) (g.met.D.Disk.lawful c.args.disk.now) c.requires.opened;
 }
 
 pub unwrap-table-requires : goal.unwrap-table-requires
 unwrap-table-requires g c = table_there c.table.result c.args.definitions.now c.loop-n.n c.table.ensures (omega (arith, c.loop-n-test.true, c.count-n-end.ensures))
 
-pub returns-in-Err-clause-adds : goal.returns-in-Err-clause-adds
-returns-in-Err-clause-adds g c =
-    adds_trans (g.D.Disk.view c.args.disk.now) (g.D.Disk.view c.loop-n.disk) (g.D.Disk.view c.define.new.disk) (g.met.D.Disk.lawful c.loop-n.disk) c.loop-n.invariant.adds c.define.ensures.adds
+pub returns-in-Err-clause-keeps : goal.returns-in-Err-clause-keeps
+returns-in-Err-clause-keeps g c =
+    disk_trans c.loop-n.archive c.define.new.archive (g.D.Disk.view c.args.disk.now) (g.D.Disk.view c.loop-n.disk) (g.D.Disk.view c.define.new.disk) (g.met.D.Disk.lawful c.loop-n.disk) c.loop-n.invariant.keeps c.define.ensures.keeps
 
 pub loop-n-preserved : goal.loop-n-preserved
 loop-n-preserved g c =
@@ -66,7 +61,5 @@ loop-n-preserved g c =
           c.args.report.now.lines c.loop-n.report.lines c.define.new.report.lines inv.came
           (table_at c.table.result c.unwrap-table.result c.args.definitions.now c.loop-n.n c.table.ensures c.unwrap-table.ensures) c.in-Ok.ensures.came;
       goes = goes_trans c.loop-n.archive c.define.new.archive (g.D.Disk.view c.args.disk.now) (g.D.Disk.view c.loop-n.disk) (g.D.Disk.view c.define.new.disk) inv.goes c.in-Ok.ensures.goes;
-      holds = c.define.ensures.holds;
-      adds = adds_trans (g.D.Disk.view c.args.disk.now) (g.D.Disk.view c.loop-n.disk) (g.D.Disk.view c.define.new.disk) (g.met.D.Disk.lawful c.loop-n.disk) inv.adds c.define.ensures.adds;
-      link = c.define.ensures.link ∙ inv.link;
+      keeps = disk_trans c.loop-n.archive c.define.new.archive (g.D.Disk.view c.args.disk.now) (g.D.Disk.view c.loop-n.disk) (g.D.Disk.view c.define.new.disk) (g.met.D.Disk.lawful c.loop-n.disk) inv.keeps c.define.ensures.keeps;
     }

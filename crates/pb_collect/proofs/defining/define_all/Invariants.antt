@@ -1,7 +1,7 @@
 use Rattle.std.proofs.Common.{◌≡◌, ◌<◌, ◌++◌, List, length}
 use Rattle.pb_archive.specs.Opened.{register_of}
-use Rattle.pb_collect.specs.Adding.{Adds, HoldsAtLeast}
-use Rattle.pb_collect.specs.Defining.{Goes, TablesCame}
+use Rattle.pb_collect.specs.Defining.{DiskKeeps, TablesCame}
+use Rattle.pb_collect.specs.Exchanges.{Goes}
 use Rattle.pb_collect.specs.declared.report.DefsLine.{DefsLine as Line}
 use Rattle.pb_collect.proofs.defining.define_all.Given as goal
 
@@ -10,7 +10,5 @@ invariant-loop-n g l = record {
   there : l.station < length l.archive.plan.stations;
   came : (lines : List Line) × (l.report.lines ≡ l.fn.report.lines ++ lines) × TablesCame l.station l.definitions l.n lines (register_of l.fn.archive) (register_of l.archive);
   goes : Goes l.archive (g.D.Disk.view l.fn.disk) (g.D.Disk.view l.disk);
-  holds : HoldsAtLeast (register_of l.archive) (g.D.Disk.view l.disk);
-  adds : Adds (g.D.Disk.view l.fn.disk) (g.D.Disk.view l.disk);
-  link : (g.D.Disk.view l.disk).link ≡ (g.D.Disk.view l.fn.disk).link;
+  keeps : DiskKeeps l.archive (g.D.Disk.view l.fn.disk) (g.D.Disk.view l.disk);
 }

@@ -5,6 +5,7 @@ use Rattle.pb_collect.specs.Fetching.{StationStops}
 use Rattle.pb_collect.specs.Tables.{channel}
 use Rattle.pb_collect.proofs.AddingLemmas.{adds_none, adds_trans, holds_open}
 use Rattle.pb_collect.proofs.FetchingLemmas.{next_station, station_plan}
+use Rattle.pb_collect.proofs.RequestLemmas.{goes_start, goes_trans}
 use Rattle.pb_collect.proofs.fetching.fetch_all.Goals as goal
 
 pub returns-in_default-clause-holds : goal.returns-in_default-clause-holds
@@ -15,7 +16,7 @@ loop-station-init g c = record {
   room = omega (arith, c.in-Ok.ensures.exact);
   plan = refl;
   came = ([], sym (append-nil c.args.report.now.lines), (refl, refl, refl));
-  goes = record { usable = c.requires.usable; opened = c.requires.opened; faults = refl; link_faults = refl };
+  goes = goes_start c.args.archive.now (g.S.Disk.view c.args.site.now) c.requires.usable c.requires.opened;
   holds = holds_open c.args.archive.now (g.S.Disk.view c.args.site.now) c.requires.opened;
   adds = adds_none (g.S.Disk.view c.args.site.now) (g.met.S.Disk.lawful c.args.site.now);
   count = omega (arith, c.new-listener.ensures.count);
@@ -58,7 +59,7 @@ loop-station-preserved g c =
       plan = station_plan c.args.limits c.loop-station.archive.plan c.loop-station.station own.0 (channel c.loop-station.listener now.link) (channel c.fetch_station.new.listener new.link) (register_of c.loop-station.archive) (register_of c.fetch_station.new.archive) own.2 ∙ inv.plan;
       came = next_station c.args.limits c.args.archive.now.plan c.loop-station.archive.plan c.loop-station.station (channel c.new-listener.result old.link) (channel c.loop-station.listener now.link) (channel c.fetch_station.new.listener new.link)
           (register_of c.args.archive.now) (register_of c.loop-station.archive) (register_of c.fetch_station.new.archive) c.args.report.now.lines c.loop-station.report.lines c.fetch_station.new.report.lines inv.plan inv.came own;
-      goes = record { usable = c.in-Ok-fetch_station.ensures.goes.usable; opened = c.in-Ok-fetch_station.ensures.goes.opened; faults = c.in-Ok-fetch_station.ensures.goes.faults ∙ inv.goes.faults; link_faults = c.in-Ok-fetch_station.ensures.goes.link_faults ∙ inv.goes.link_faults };
+      goes = goes_trans c.loop-station.archive c.fetch_station.new.archive old now new inv.goes c.in-Ok-fetch_station.ensures.goes;
       holds = c.fetch_station.ensures.holds;
       adds = adds_trans old now new (g.met.S.Disk.lawful c.loop-station.site) inv.adds c.fetch_station.ensures.adds;
       count = omega (arith, inv.count, c.fetch_station.ensures.count);

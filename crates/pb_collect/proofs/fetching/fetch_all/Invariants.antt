@@ -2,7 +2,7 @@ use Rattle.std.proofs.Common.{◌≡◌, ◌≤◌, ◌+◌, ◌*◌, ◌^◌, �
 use Rattle.pb_tdf.specs.Definition.{file_bytes_max}
 use Rattle.pb_archive.specs.Opened.{register_of}
 use Rattle.pb_collect.specs.Adding.{Adds, HoldsAtLeast}
-use Rattle.pb_collect.specs.Defining.{Goes}
+use Rattle.pb_collect.specs.Exchanges.{Goes}
 use Rattle.pb_collect.specs.Fetching.{StationsCame}
 use Rattle.pb_collect.specs.Tables.{channel}
 use Rattle.pb_collect.specs.declared.report.DefsLine.{DefsLine as Line}

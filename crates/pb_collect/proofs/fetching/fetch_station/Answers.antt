@@ -44,7 +44,7 @@ returns-in-Ok-None-clause-came g c =
     on_ok_weaker c.read_file.result (λ reads. (
       reads.0,
       reads.1,
-      subst (λ (k : Link). StationCame c.args.limits c.args.archive.now.plan c.args.station reads.0 from (channel c.upload.new.listener k) (register_of c.args.archive.now) (register_of c.read_file.new.archive)) (sym c.read_file.ensures.link)
+      subst (λ (k : Link). StationCame c.args.limits c.args.archive.now.plan c.args.station reads.0 from (channel c.upload.new.listener k) (register_of c.args.archive.now) (register_of c.read_file.new.archive)) (sym c.read_file.ensures.keeps.link)
           (record {
             contact = contact;
             is = c.contact_of-contact.ensures;
@@ -58,4 +58,4 @@ returns-in-Ok-None-clause-came g c =
 
 pub returns-in-Ok-None-clause-adds : goal.returns-in-Ok-None-clause-adds
 returns-in-Ok-None-clause-adds g c =
-    adds_trans (g.S.Disk.view c.args.site.now) (g.S.Disk.view c.upload.new.site) (g.S.Disk.view c.read_file.new.disk) (g.met.S.Disk.lawful c.upload.new.site) c.upload.ensures.adds c.read_file.ensures.adds
+    adds_trans (g.S.Disk.view c.args.site.now) (g.S.Disk.view c.upload.new.site) (g.S.Disk.view c.read_file.new.disk) (g.met.S.Disk.lawful c.upload.new.site) c.upload.ensures.adds c.read_file.ensures.keeps.adds

@@ -1,8 +1,8 @@
-use Rattle.pb_collect.proofs.AddingLemmas.{holds_open}
+use Rattle.pb_collect.proofs.AddingLemmas.{disk_none}
 use Rattle.pb_collect.proofs.fetching.read_file.Goals as goal
 
-pub returns-in-None-clause-holds : goal.returns-in-None-clause-holds
-returns-in-None-clause-holds g c = holds_open c.args.archive.now (g.D.Disk.view c.args.disk.now) c.requires.opened
+pub returns-in-None-clause-keeps : goal.returns-in-None-clause-keeps
+returns-in-None-clause-keeps g c = disk_none c.args.archive.now (g.D.Disk.view c.args.disk.now) (g.met.D.Disk.lawful c.args.disk.now) c.requires.opened
 
-pub returns-in-Some-clause-holds : goal.returns-in-Some-clause-holds
-returns-in-Some-clause-holds g c = holds_open c.args.archive.now (g.D.Disk.view c.args.disk.now) c.requires.opened
+pub returns-in-Some-clause-keeps : goal.returns-in-Some-clause-keeps
+returns-in-Some-clause-keeps g c = disk_none c.args.archive.now (g.D.Disk.view c.args.disk.now) (g.met.D.Disk.lawful c.args.disk.now) c.requires.opened

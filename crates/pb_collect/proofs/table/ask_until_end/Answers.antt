@@ -14,7 +14,7 @@ use Rattle.pb_collect.proofs.ChangingLemmas.{changes_none, changes_trans}
 use Rattle.pb_collect.specs.Progress.{Progress, partial_bytes}
 use Rattle.pb_collect.proofs.ExchangeLemmas.{ready_asked, closed_bytes, exchanged_layout, asks_next, ends_same}
 use Rattle.pb_collect.proofs.KeptLemmas.{keeps_none}
-use Rattle.pb_collect.proofs.RequestLemmas.{knows_start, keeps_more, knows_more}
+use Rattle.pb_collect.proofs.RequestLemmas.{goes_start, goes_trans, knows_start, keeps_more, knows_more}
 use Rattle.pb_collect.proofs.table.ask_until_end.Goals as goal
 
 pub requests-init : goal.requests-init
@@ -29,15 +29,12 @@ requests-init g c =
       within = omega (arith, ap (λ (x : Progress). x.asked) is, c.requires.none, c.requires.limits.budget);
       small = subst (λ (l : Layout). content_len l ≤ advance_bytes_max) (sym (ap (λ (x : Progress). x.layout) is)) c.requires.small;
       ready = ready_asked c.args.archive.now c.args.id.0 p q is c.requires.ready;
-      opened = c.requires.opened;
-      usable = c.requires.usable;
+      goes = goes_start c.args.archive.now now c.requires.usable c.requires.opened;
       listens = c.requires.listens;
       asks = λ held there. (0, omega (arith, ap (λ (x : Progress). x.asked) is, c.requires.none), ap (λ (x : Progress). point c.args.listener.now now.link x) is);
       changes = changes_none c.args.id.0 (register_of c.args.archive.now) (register_of c.args.archive.now) refl;
       keeps = keeps_none now (g.met.S.Disk.lawful c.args.site.now);
       knows = λ good honest. subst (λ (b : List ℕ). KnowsTrue now c.args.id.0 b []) (sym (closed_bytes p q is c.requires.closed)) (knows_start now c.args.id.0 good);
-      faults = refl;
-      link_faults = refl;
       count = omega arith;
     }
 
@@ -90,8 +87,7 @@ requests-preserved g c =
       within = omega (arith, next.1, next.2);
       small = subst (λ (l : Layout). content_len l ≤ advance_bytes_max) (sym layout) inv.small;
       ready = c.in-Ok-Ask.ensures.ready;
-      opened = c.in-Ok-Ask.ensures.opened;
-      usable = c.in-Ok-Ask.ensures.usable;
+      goes = goes_trans c.requests.archive c.exchange.new.archive old now new inv.goes c.in-Ok-Ask.ensures.goes;
       listens = c.in-Ok-Ask.ensures.listens;
       asks = λ held there.
           let before = inv.asks held there in (
@@ -111,8 +107,6 @@ requests-preserved g c =
       changes = changes_trans c.args.id.0 (register_of c.args.archive.now) (register_of c.requests.archive) (register_of c.exchange.new.archive) inv.changes c.exchange.ensures.changes;
       keeps = keeps_more (KnowsTrue now c.args.id.0 (partial_bytes c.requests.progress) []) old now new (g.met.S.Disk.lawful c.requests.site) inv.keeps inv.knows c.exchange.ensures.keeps;
       knows = knows_more (KnowsTrue now c.args.id.0 (partial_bytes c.requests.progress) []) old now new (g.met.S.Disk.lawful c.requests.site) inv.keeps inv.knows c.exchange.ensures.keeps (KnowsTrue new c.args.id.0 (partial_bytes c.exchange.new.progress) []) c.in-Ok-Ask.ensures.knows;
-      faults = c.in-Ok-Ask.ensures.faults.0 ∙ inv.faults;
-      link_faults = c.in-Ok-Ask.ensures.faults.1 ∙ inv.link_faults;
       count = omega (arith, inv.count, inv.some, next.1, c.exchange.ensures.count);
     }
 

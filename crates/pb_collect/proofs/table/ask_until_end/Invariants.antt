@@ -1,13 +1,13 @@
-use Rattle.std.proofs.Common.{◌≡◌, ℕ, Some, ◌+◌, ◌-◌, ◌*◌, ◌^◌, ◌≤◌, false, []}
+use Rattle.std.proofs.Common.{◌≡◌, ℕ, Some, ◌+◌, ◌-◌, ◌*◌, ◌^◌, ◌≤◌, []}
 use Rattle.std.specs.Prelude.{slice_get}
 use Rattle.pb_base.specs.Record.{content_len}
 use Rattle.pb_archive.specs.Entry.{advance_bytes_max}
-use Rattle.pb_archive.specs.Opened.{IsOpen, register_of}
+use Rattle.pb_archive.specs.Opened.{register_of}
 use Rattle.pb_archive.specs.declared.held.Held.{Held}
-use Rattle.pb_archive.specs.Refusals.{NeedsOpening}
 use Rattle.pb_truth.specs.Pairs.{AreGood}
 use Rattle.pb_collect.specs.Changing.{ChangesOnly}
 use Rattle.pb_collect.specs.Ends.{asked_once_more}
+use Rattle.pb_collect.specs.Exchanges.{Goes}
 use Rattle.pb_collect.specs.Heard.{Listens}
 use Rattle.pb_collect.specs.Kept.{HonestFrom, Keeps, KnowsTrue}
 use Rattle.pb_collect.specs.Progress.{question, partial_bytes}
@@ -22,16 +22,13 @@ invariant-requests g l = record {
   within : l.progress.asked ≤ l.limits.budget;
   small : content_len l.progress.layout ≤ advance_bytes_max;
   ready : IsReady l.archive l.id.0 l.progress;
-  opened : IsOpen l.archive (g.S.Disk.view l.site);
-  usable : NeedsOpening l.archive false;
+  goes : Goes l.archive (g.S.Disk.view l.fn.site) (g.S.Disk.view l.site);
   listens : Listens l.listener (g.S.Disk.view l.site).link;
   asks : (held : Held) → slice_get l.fn.archive.tables l.id.0 ≡ Some held
       → (n : ℕ) × (l.progress.asked ≡ n + 1) × Requests l.limits l.fn.archive.plan held n (point l.fn.listener (g.S.Disk.view l.fn.site).link (asked_once_more l.fn.progress)) (point l.listener (g.S.Disk.view l.site).link l.progress);
   changes : ChangesOnly l.id.0 (register_of l.fn.archive) (register_of l.archive);
   keeps : Keeps (g.S.Disk.view l.fn.site) (g.S.Disk.view l.site);
   knows : AreGood (g.S.Disk.view l.fn.site) → HonestFrom (g.S.Disk.view l.fn.site) (g.S.Disk.view l.site) → KnowsTrue (g.S.Disk.view l.site) l.id.0 (partial_bytes l.progress) [];
-  faults : (g.S.Disk.view l.site).faults ≡ (g.S.Disk.view l.fn.site).faults;
-  link_faults : (g.S.Disk.view l.site).link.faults ≡ (g.S.Disk.view l.fn.site).link.faults;
   count : l.listener.ear.count ≤ l.fn.listener.ear.count + (l.progress.asked - 1) * 2 ^ 25;
 }
 

@@ -21,12 +21,12 @@ returns-in-Ok-clause-there g c =
     let ready = c.in-Ok-None.ensures.ready in
     let tables = c.ask_until_end.new.archive.tables in
     let below : c.args.id.0 < length tables = get_below tables c.args.id.0 ready.held ready.there in
-    omega (arith, below, ap (λ (r : Register). length r.tables) c.in-Ok.ensures.changed, length-changed_at (ended (record { told = None })) tables c.args.id.0)
+    omega (arith, below, ap (λ (r : Register). length r.tables) c.in-Ok.ensures.made.changed, length-changed_at (ended (record { told = None })) tables c.args.id.0)
 
 pub returns-in-Ok-clause-stopped : goal.returns-in-Ok-clause-stopped
 returns-in-Ok-clause-stopped g c held then =
     let ready = c.in-Ok-None.ensures.ready in
-    stop_there (register_of c.ask_until_end.new.archive) (register_of c.stop.new.self) c.args.id.0 (record { told = None }) ready.held held c.in-Ok.ensures.changed ready.there then
+    stop_there (register_of c.ask_until_end.new.archive) (register_of c.stop.new.self) c.args.id.0 (record { told = None }) ready.held held c.in-Ok.ensures.made.changed ready.there then
 
 pub returns-in-Ok-Some-clause-stopped : goal.returns-in-Ok-Some-clause-stopped
 returns-in-Ok-Some-clause-stopped g c held then =
@@ -34,8 +34,8 @@ returns-in-Ok-Some-clause-stopped g c held then =
     let there = get_there c.args.archive.now.tables c.args.id.0 (ready_there c.args.archive.now c.args.id.0 c.args.progress.now c.requires.ready) in
     let asks = c.in-Ok-Some.ensures.asks there.0 there.1 in
     let exchanged = asks.last.exchanged in
-    let comes = subst (λ (next : Option End). Comes c.args.limits.budget exchanged.mid exchanged.outcome (end_of next) c.ask_until_end.new.progress) c.in-Ok-Some.field-0-is exchanged.comes in
-    stops_none c.args.limits.budget exchanged.mid exchanged.outcome c.in-Ok-Some.end held comes.0 (ap (λ (h : Held). h.stop) (same_Some held ready.held (sym then ∙ ready.there)) ∙ ready.far.going_on)
+    let comes = subst (λ (next : Option End). Comes c.args.limits.budget exchanged.mid exchanged.conclusion (end_of next) c.ask_until_end.new.progress) c.in-Ok-Some.field-0-is exchanged.comes in
+    stops_none c.args.limits.budget exchanged.mid exchanged.conclusion c.in-Ok-Some.end held comes.0 (ap (λ (h : Held). h.stop) (same_Some held ready.held (sym then ∙ ready.there)) ∙ ready.far.going_on)
 
 pub returns-in-Ok-Some-clause-ended : goal.returns-in-Ok-Some-clause-ended
 returns-in-Ok-Some-clause-ended g c held there =
@@ -60,18 +60,18 @@ pub returns-in-Ok-clause-front : goal.returns-in-Ok-clause-front
 returns-in-Ok-clause-front g c held then =
     let ready = c.in-Ok-None.ensures.ready in
     let stop : TableStop = record { told = None } in
-    ap (λ (h : Held). h.front) (get_changed (ended stop) c.ask_until_end.new.archive.tables c.args.id.0 ready.held held ready.there (sym (ap (λ (r : Register). slice_get r.tables c.args.id.0) c.in-Ok.ensures.changed) ∙ then)) ∙ ready.far.front
+    ap (λ (h : Held). h.front) (get_changed (ended stop) c.ask_until_end.new.archive.tables c.args.id.0 ready.held held ready.there (sym (ap (λ (r : Register). slice_get r.tables c.args.id.0) c.in-Ok.ensures.made.changed) ∙ then)) ∙ ready.far.front
 
 pub returns-in-Ok-clause-changes : goal.returns-in-Ok-clause-changes
 returns-in-Ok-clause-changes g c =
     let ready = c.in-Ok-None.ensures.ready in
     changes_trans c.args.id.0 (register_of c.args.archive.now) (register_of c.ask_until_end.new.archive) (register_of c.stop.new.self) c.ask_until_end.ensures.changes
-    (changes_stopped c.args.id.0 (register_of c.ask_until_end.new.archive) (register_of c.stop.new.self) (record { told = None }) ready.held ready.there ready.far.going_on c.in-Ok.ensures.changed)
+    (changes_stopped c.args.id.0 (register_of c.ask_until_end.new.archive) (register_of c.stop.new.self) (record { told = None }) ready.held ready.there ready.far.going_on c.in-Ok.ensures.made.changed)
 
 pub returns-in-Err-stop-clause-changes : goal.returns-in-Err-stop-clause-changes
 returns-in-Err-stop-clause-changes g c =
     changes_trans c.args.id.0 (register_of c.args.archive.now) (register_of c.ask_until_end.new.archive) (register_of c.stop.new.self) c.ask_until_end.ensures.changes
-    (changes_none c.args.id.0 (register_of c.ask_until_end.new.archive) (register_of c.stop.new.self) c.in-Err-stop.ensures.stays)
+    (changes_none c.args.id.0 (register_of c.ask_until_end.new.archive) (register_of c.stop.new.self) c.in-Err-stop.ensures.refusal.stays)
 
 pub returns-in-Ok-clause-keeps : goal.returns-in-Ok-clause-keeps
 returns-in-Ok-clause-keeps g c =

@@ -1,6 +1,6 @@
 use Rattle.std.proofs.Common.{[], ◌∷◌, ◌++◌, sym, subst}
 use Rattle.std.specs.Prelude.{Option}
-use Rattle.std.proofs.lemmas.Result.{on_ok_weaker}
+use Rattle.std.proofs.lemmas.Result.{IfErr-weaker, on_ok_weaker}
 use Rattle.pb_archive.specs.Entry as entry
 use Rattle.pb_archive.specs.Opened.{CanAdvanceHere, register_of}
 use Rattle.pb_collect.specs.Effects.{seen_advance}
@@ -44,4 +44,4 @@ returns-in-Some-clause-changes g c =
     (λ held there.
     let can = subst (λ (e : Option Effect). CanFollow held (advance_in p.layout p.joined e)) c.in-Some.is (c.requires.follows held there) in
     (subst (λ (a : entry.Advance). CanAdvanceHere held a) (sym c.advance-form.ensures) can.0, tt))
-    c.advance.ensures.changed c.advance.ensures.stays
+    (on_ok_weaker c.advance.result (λ made. made.changed) c.advance.ensures.made) (IfErr-weaker c.advance.result _ _ (λ fault refusal. refusal.stays) c.advance.ensures.refusal)

@@ -1,5 +1,5 @@
 use Rattle.std.proofs.Common.{◌≡◌, List, ℕ, [], ◌∷◌, ◌++◌, ◌<◌, length, refl, sym, ◌∙◌, ap, subst, arith, rules, append-nil}
-use Rattle.pb_ask.specs.declared.question.Outcome.TheVariants as outcome
+use Rattle.pb_ask.specs.declared.question.Conclusion.TheVariants as conclusion
 use Rattle.pb_collect.specs.Tables.{channel}
 use Rattle.pb_collect.specs.Uploads.{Brought}
 use Rattle.pb_collect.specs.declared.upload.FileReply.{FileReply}
@@ -25,7 +25,7 @@ returns-then-join-eq0-clause-step g c =
       j.1 ∙ ap (λ l. c.args.file.now.items ++ l) nothing ∙ append-nil c.args.file.now.items,
       subst (λ l. Brought c.args.limits c.args.contact.now (length c.args.file.now.items) l from to) nothing
           (brought_at c.args.limits c.args.contact.now c.args.tran.now c.len.result (length c.args.file.now.items) (search rules) c.args.listener.now c.ask_piece.new.listener (g.S.Disk.view c.args.site.now).link (g.S.Disk.view c.ask_piece.new.site).link
-          d.field-0 j.0 (d.field-0-is ∙ ap (λ (x : FileReply). outcome.Answer x) d.field-0-0-is) d.ensures.asks j.3),
+          d.field-0 j.0 (d.field-0-is ∙ ap (λ (x : FileReply). conclusion.Answer x) d.field-0-0-is) d.ensures.asks j.3),
     )
 
 pub returns-else-join-eq0-clause-step : goal.returns-else-join-eq0-clause-step
@@ -37,14 +37,14 @@ returns-else-join-eq0-clause-step g c =
       j.1,
       some,
       brought_at c.args.limits c.args.contact.now c.args.tran.now c.len.result (length c.args.file.now.items) (search rules) c.args.listener.now c.ask_piece.new.listener (g.S.Disk.view c.args.site.now).link (g.S.Disk.view c.ask_piece.new.site).link
-          d.field-0 j.0 (d.field-0-is ∙ ap (λ (x : FileReply). outcome.Answer x) d.field-0-0-is) d.ensures.asks j.3,
+          d.field-0 j.0 (d.field-0-is ∙ ap (λ (x : FileReply). conclusion.Answer x) d.field-0-0-is) d.ensures.asks j.3,
     )
 
 pub returns-in-Ok-Answer-Refused-clause-step : goal.returns-in-Ok-Answer-Refused-clause-step
 returns-in-Ok-Answer-Refused-clause-step g c = (
   refl,
   asked_at c.args.limits c.args.contact.now c.args.tran.now c.len.result (length c.args.file.now.items) (search rules) c.args.listener.now c.ask_piece.new.listener (g.S.Disk.view c.args.site.now).link (g.S.Disk.view c.ask_piece.new.site).link
-      _ c.in-Ok-Answer-Refused.field-0 (c.in-Ok-Answer-Refused.field-0-is ∙ ap (λ (x : FileReply). outcome.Answer x) c.in-Ok-Answer-Refused.field-0-0-is) c.in-Ok-Answer-Refused.ensures.asks,
+      _ c.in-Ok-Answer-Refused.field-0 (c.in-Ok-Answer-Refused.field-0-is ∙ ap (λ (x : FileReply). conclusion.Answer x) c.in-Ok-Answer-Refused.field-0-0-is) c.in-Ok-Answer-Refused.ensures.asks,
 )
 
 pub returns-in-Ok-Undelivered-clause-step : goal.returns-in-Ok-Undelivered-clause-step

@@ -1,7 +1,7 @@
 use Rattle.std.proofs.Common.{Ok, Err, sym, subst}
 use Rattle.std.specs.Option.{ForSome}
 use Rattle.pb_archive.specs.Opened.{Register}
-use Rattle.pb_collect.proofs.KeptLemmas.{all_go_on, keeps_opened, keeps_trans}
+use Rattle.pb_collect.proofs.KeptLemmas.{all_collect_on, keeps_opened, keeps_trans}
 use Rattle.pb_tool.specs.Check.{IsKeptOf}
 use Rattle.pb_collect.specs.Complete.{Completes}
 use Rattle.pb_tool.specs.Collect.{Came, answer_text, budget_of}
@@ -24,7 +24,7 @@ returns-in-Ok-clause-ran g c =
       means = record {
         kept = subst (λ (r : Register). ForSome old.file (IsKeptOf r)) (sym ran.is) (means_of (Ok archive) old.file mid c.in-Ok.ensures.same opened tt);
         came = subst (λ n. Came n ran.round old new) c.budget_of-budget.ensures.budget came;
-        goes_on = all_go_on old.file mid new (g.met.S.Disk.lawful c.round.new.site) c.in-Ok.ensures.same opened.settled c.round.ensures.keeps.leaves;
+        goes_on = all_collect_on old.file mid new (g.met.S.Disk.lawful c.round.new.site) c.in-Ok.ensures.same opened.settled c.round.ensures.keeps;
         complete = complete_after ran.round.result (budget_of c.args.budget) ran.round.before ran.round.outcomes old mid new (g.met.S.Disk.lawful c.open.new.site) c.open.ensures.link
             c.in-Ok.ensures.same c.open.ensures.cause.later
             (keeps_opened old mid (g.met.S.Disk.lawful c.open.new.site) c.open.ensures.leaves c.open.ensures.link) c.round.ensures.keeps

@@ -14,7 +14,7 @@ loop-self-init g c = record {
 
 pub loop-self-preserved : goal.loop-self-preserved
 loop-self-preserved g c =
-    let heard = c.in_ok-outcome.ensures in
+    let heard = c.in_ok-conclusion.ensures in
     let sent = c.in_ok-send.ensures in
     record {
       so_far = Going-more (g.Q.Question.wanted c.args.question.now) c.args.limits c.args.self.now (g.S.Disk.view c.args.site.now).link c.loop-self.self c.listen.new.self (g.S.Disk.view c.loop-self.site).link (g.S.Disk.view c.send.new.self).link (g.S.Disk.view c.listen.new.site).link c.loop-self.exchange c.loop-self.invariant.so_far (sent_frame (g.Q.Question.wanted c.args.question.now) c.args.limits c.args.self.now (g.S.Disk.view c.args.site.now).link c.write-len.ensures.frame c.in_ok-send.ensures.world) c.in_ok-send.ensures.quiets c.listen.new.exchange (listens_as (g.Q.Question.wanted c.args.question.now) c.args.limits c.args.self.now (g.S.Disk.view c.args.site.now).link c.loop-self.self c.listen.new.self (g.S.Disk.view c.loop-self.site).link (g.S.Disk.view c.send.new.self).link (g.S.Disk.view c.listen.new.site).link c.loop-self.exchange c.loop-self.invariant.so_far (sent_frame (g.Q.Question.wanted c.args.question.now) c.args.limits c.args.self.now (g.S.Disk.view c.args.site.now).link c.write-len.ensures.frame c.in_ok-send.ensures.world) c.in_ok-send.ensures.quiets c.listen.new.exchange c.in_default.is heard.listens);
@@ -32,23 +32,23 @@ returns-in_err-send-clause-passes g c =
     (Passes-trans (g.Q.Question.wanted c.args.question.now).frame (c.loop-self.exchange.sent - 1) 1 _ _ _ c.loop-self.invariant.passes
     (Passes-maybe (g.Q.Question.wanted c.args.question.now).frame _ _ (g.met.S.Disk.lawful c.loop-self.site) sent.disk sent.disk_faults sent.time sent.cause.later (maybe_sent (g.Q.Question.wanted c.args.question.now) c.args.limits c.args.self.now (g.S.Disk.view c.args.site.now).link c.write-len.ensures.frame sent.world)))
 
-pub returns-in_err-outcome-clause-stops : goal.returns-in_err-outcome-clause-stops
-returns-in_err-outcome-clause-stops g c = OnErr-anyway _ _ (stops_listening (g.Q.Question.wanted c.args.question.now) c.args.limits c.args.self.now (g.S.Disk.view c.args.site.now).link c.loop-self.self c.listen.new.self (g.S.Disk.view c.loop-self.site).link (g.S.Disk.view c.send.new.self).link (g.S.Disk.view c.listen.new.site).link c.loop-self.exchange c.loop-self.invariant.so_far (sent_frame (g.Q.Question.wanted c.args.question.now) c.args.limits c.args.self.now (g.S.Disk.view c.args.site.now).link c.write-len.ensures.frame c.in_ok-send.ensures.world) c.in_ok-send.ensures.quiets c.in_err-outcome.ensures.breaks)
+pub returns-in_err-conclusion-clause-stops : goal.returns-in_err-conclusion-clause-stops
+returns-in_err-conclusion-clause-stops g c = OnErr-anyway _ _ (stops_listening (g.Q.Question.wanted c.args.question.now) c.args.limits c.args.self.now (g.S.Disk.view c.args.site.now).link c.loop-self.self c.listen.new.self (g.S.Disk.view c.loop-self.site).link (g.S.Disk.view c.send.new.self).link (g.S.Disk.view c.listen.new.site).link c.loop-self.exchange c.loop-self.invariant.so_far (sent_frame (g.Q.Question.wanted c.args.question.now) c.args.limits c.args.self.now (g.S.Disk.view c.args.site.now).link c.write-len.ensures.frame c.in_ok-send.ensures.world) c.in_ok-send.ensures.quiets c.in_err-conclusion.ensures.breaks)
 
-pub returns-in_err-outcome-clause-passes : goal.returns-in_err-outcome-clause-passes
-returns-in_err-outcome-clause-passes g c =
+pub returns-in_err-conclusion-clause-passes : goal.returns-in_err-conclusion-clause-passes
+returns-in_err-conclusion-clause-passes g c =
     let sent = c.in_ok-send.ensures in
-    Passes-sending (g.Q.Question.wanted c.args.question.now).frame (c.loop-self.exchange.sent - 1) _ _ _ _ _ (few_sent (g.Q.Question.wanted c.args.question.now) c.args.limits c.args.self.now (g.S.Disk.view c.args.site.now).link c.loop-self.self (g.S.Disk.view c.loop-self.site).link c.loop-self.exchange c.loop-self.invariant.so_far) c.loop-self.invariant.passes (Passes-sent (g.Q.Question.wanted c.args.question.now).frame _ _ (g.met.S.Disk.lawful c.loop-self.site) sent.disk sent.disk_faults sent.time sent.cause.later (sent_frame (g.Q.Question.wanted c.args.question.now) c.args.limits c.args.self.now (g.S.Disk.view c.args.site.now).link c.write-len.ensures.frame c.in_ok-send.ensures.world)) (c.in_err-outcome.ensures.passes (g.Q.Question.wanted c.args.question.now).frame)
+    Passes-sending (g.Q.Question.wanted c.args.question.now).frame (c.loop-self.exchange.sent - 1) _ _ _ _ _ (few_sent (g.Q.Question.wanted c.args.question.now) c.args.limits c.args.self.now (g.S.Disk.view c.args.site.now).link c.loop-self.self (g.S.Disk.view c.loop-self.site).link c.loop-self.exchange c.loop-self.invariant.so_far) c.loop-self.invariant.passes (Passes-sent (g.Q.Question.wanted c.args.question.now).frame _ _ (g.met.S.Disk.lawful c.loop-self.site) sent.disk sent.disk_faults sent.time sent.cause.later (sent_frame (g.Q.Question.wanted c.args.question.now) c.args.limits c.args.self.now (g.S.Disk.view c.args.site.now).link c.write-len.ensures.frame c.in_ok-send.ensures.world)) (c.in_err-conclusion.ensures.passes (g.Q.Question.wanted c.args.question.now).frame)
 
 pub returns-in-Some-clause-asks : goal.returns-in-Some-clause-asks
 returns-in-Some-clause-asks g c =
-    asks_ended (g.Q.Question.wanted c.args.question.now) c.args.limits c.args.self.now (g.S.Disk.view c.args.site.now).link c.loop-self.self c.listen.new.self (g.S.Disk.view c.loop-self.site).link (g.S.Disk.view c.send.new.self).link (g.S.Disk.view c.listen.new.site).link c.loop-self.exchange c.loop-self.invariant.so_far (sent_frame (g.Q.Question.wanted c.args.question.now) c.args.limits c.args.self.now (g.S.Disk.view c.args.site.now).link c.write-len.ensures.frame c.in_ok-send.ensures.world) c.in_ok-send.ensures.quiets c.in-Some.outcome c.listen.new.exchange (listens_as (g.Q.Question.wanted c.args.question.now) c.args.limits c.args.self.now (g.S.Disk.view c.args.site.now).link c.loop-self.self c.listen.new.self (g.S.Disk.view c.loop-self.site).link (g.S.Disk.view c.send.new.self).link (g.S.Disk.view c.listen.new.site).link c.loop-self.exchange c.loop-self.invariant.so_far (sent_frame (g.Q.Question.wanted c.args.question.now) c.args.limits c.args.self.now (g.S.Disk.view c.args.site.now).link c.write-len.ensures.frame c.in_ok-send.ensures.world) c.in_ok-send.ensures.quiets c.listen.new.exchange c.in-Some.is c.in_ok-outcome.ensures.listens)
+    asks_ended (g.Q.Question.wanted c.args.question.now) c.args.limits c.args.self.now (g.S.Disk.view c.args.site.now).link c.loop-self.self c.listen.new.self (g.S.Disk.view c.loop-self.site).link (g.S.Disk.view c.send.new.self).link (g.S.Disk.view c.listen.new.site).link c.loop-self.exchange c.loop-self.invariant.so_far (sent_frame (g.Q.Question.wanted c.args.question.now) c.args.limits c.args.self.now (g.S.Disk.view c.args.site.now).link c.write-len.ensures.frame c.in_ok-send.ensures.world) c.in_ok-send.ensures.quiets c.in-Some.conclusion c.listen.new.exchange (listens_as (g.Q.Question.wanted c.args.question.now) c.args.limits c.args.self.now (g.S.Disk.view c.args.site.now).link c.loop-self.self c.listen.new.self (g.S.Disk.view c.loop-self.site).link (g.S.Disk.view c.send.new.self).link (g.S.Disk.view c.listen.new.site).link c.loop-self.exchange c.loop-self.invariant.so_far (sent_frame (g.Q.Question.wanted c.args.question.now) c.args.limits c.args.self.now (g.S.Disk.view c.args.site.now).link c.write-len.ensures.frame c.in_ok-send.ensures.world) c.in_ok-send.ensures.quiets c.listen.new.exchange c.in-Some.is c.in_ok-conclusion.ensures.listens)
 
 pub returns-in-Some-clause-passes : goal.returns-in-Some-clause-passes
 returns-in-Some-clause-passes g c =
     let sent = c.in_ok-send.ensures in
-    Passes-sending (g.Q.Question.wanted c.args.question.now).frame (c.loop-self.exchange.sent - 1) _ _ _ _ _ (few_sent (g.Q.Question.wanted c.args.question.now) c.args.limits c.args.self.now (g.S.Disk.view c.args.site.now).link c.loop-self.self (g.S.Disk.view c.loop-self.site).link c.loop-self.exchange c.loop-self.invariant.so_far) c.loop-self.invariant.passes (Passes-sent (g.Q.Question.wanted c.args.question.now).frame _ _ (g.met.S.Disk.lawful c.loop-self.site) sent.disk sent.disk_faults sent.time sent.cause.later (sent_frame (g.Q.Question.wanted c.args.question.now) c.args.limits c.args.self.now (g.S.Disk.view c.args.site.now).link c.write-len.ensures.frame c.in_ok-send.ensures.world)) (c.in_ok-outcome.ensures.passes (g.Q.Question.wanted c.args.question.now).frame)
+    Passes-sending (g.Q.Question.wanted c.args.question.now).frame (c.loop-self.exchange.sent - 1) _ _ _ _ _ (few_sent (g.Q.Question.wanted c.args.question.now) c.args.limits c.args.self.now (g.S.Disk.view c.args.site.now).link c.loop-self.self (g.S.Disk.view c.loop-self.site).link c.loop-self.exchange c.loop-self.invariant.so_far) c.loop-self.invariant.passes (Passes-sent (g.Q.Question.wanted c.args.question.now).frame _ _ (g.met.S.Disk.lawful c.loop-self.site) sent.disk sent.disk_faults sent.time sent.cause.later (sent_frame (g.Q.Question.wanted c.args.question.now) c.args.limits c.args.self.now (g.S.Disk.view c.args.site.now).link c.write-len.ensures.frame c.in_ok-send.ensures.world)) (c.in_ok-conclusion.ensures.passes (g.Q.Question.wanted c.args.question.now).frame)
 
 pub returns-in-Some-clause-count : goal.returns-in-Some-clause-count
 returns-in-Some-clause-count g c =
-    count_more (g.Q.Question.wanted c.args.question.now) c.args.limits c.args.self.now (g.S.Disk.view c.args.site.now).link c.loop-self.self c.listen.new.self (g.S.Disk.view c.loop-self.site).link (g.S.Disk.view c.send.new.self).link (g.S.Disk.view c.listen.new.site).link c.loop-self.exchange c.loop-self.invariant.so_far (sent_frame (g.Q.Question.wanted c.args.question.now) c.args.limits c.args.self.now (g.S.Disk.view c.args.site.now).link c.write-len.ensures.frame c.in_ok-send.ensures.world) c.in_ok-send.ensures.quiets _ c.listen.new.exchange c.in_ok-outcome.ensures.listens (search rules)
+    count_more (g.Q.Question.wanted c.args.question.now) c.args.limits c.args.self.now (g.S.Disk.view c.args.site.now).link c.loop-self.self c.listen.new.self (g.S.Disk.view c.loop-self.site).link (g.S.Disk.view c.send.new.self).link (g.S.Disk.view c.listen.new.site).link c.loop-self.exchange c.loop-self.invariant.so_far (sent_frame (g.Q.Question.wanted c.args.question.now) c.args.limits c.args.self.now (g.S.Disk.view c.args.site.now).link c.write-len.ensures.frame c.in_ok-send.ensures.world) c.in_ok-send.ensures.quiets _ c.listen.new.exchange c.in_ok-conclusion.ensures.listens (search rules)

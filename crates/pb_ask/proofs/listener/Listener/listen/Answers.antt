@@ -23,8 +23,8 @@ loop-n-init g c = record {
 
 pub returns-in-Some-clause-listens : goal.returns-in-Some-clause-listens
 returns-in-Some-clause-listens g c =
-    listens_first (g.Q.Question.wanted c.args.question.now) c.args.self.now (g.S.Disk.view c.args.site.now).link c.args.exchange.now c.judge.new.self c.in-Some.ended c.outcome_of.result c.judge.new.exchange c.judge.ensures.room c.requires.begun c.requires.some c.requires.sent
-    (judged_as (EndsBy (g.Q.Question.wanted c.args.question.now)) c.in-Some.is c.judge.ensures.judged) c.outcome_of.ensures
+    listens_first (g.Q.Question.wanted c.args.question.now) c.args.self.now (g.S.Disk.view c.args.site.now).link c.args.exchange.now c.judge.new.self c.in-Some.ended c.conclusion_of.result c.judge.new.exchange c.judge.ensures.room c.requires.begun c.requires.some c.requires.sent
+    (judged_as (EndsBy (g.Q.Question.wanted c.args.question.now)) c.in-Some.is c.judge.ensures.judged) c.conclusion_of.ensures
 
 pub returns-in_err-n-clause-breaks : goal.returns-in_err-n-clause-breaks
 returns-in_err-n-clause-breaks g c =
@@ -40,7 +40,7 @@ returns-in-Some-judge-clause-listens g c =
     let came = c.in_ok-n.ensures in
     listens_ended (g.Q.Question.wanted c.args.question.now) c.args.self.now (g.S.Disk.view c.args.site.now).link c.args.exchange.now c.loop-n.self c.judge-in-loop-n.new.self (g.S.Disk.view c.loop-n.site).link (g.S.Disk.view c.fill.new.site).link c.loop-n.exchange c.loop-n.invariant.so_far c.fill.new.self
     (comes _ _ _ came.world _ came.count came.tick came.no_tick) came.few c.requires.some
-    c.in-Some-judge.ended c.outcome_of-in-Some-judge.result c.judge-in-loop-n.new.exchange c.requires.sent (judged_at (EndsBy (g.Q.Question.wanted c.args.question.now)) c.self.view_is (judged_as (EndsBy (g.Q.Question.wanted c.args.question.now)) c.in-Some-judge.is c.judge-in-loop-n.ensures.judged)) c.outcome_of-in-Some-judge.ensures
+    c.in-Some-judge.ended c.conclusion_of-in-Some-judge.result c.judge-in-loop-n.new.exchange c.requires.sent (judged_at (EndsBy (g.Q.Question.wanted c.args.question.now)) c.self.view_is (judged_as (EndsBy (g.Q.Question.wanted c.args.question.now)) c.in-Some-judge.is c.judge-in-loop-n.ensures.judged)) c.conclusion_of-in-Some-judge.ensures
 
 pub returns-in-Some-judge-clause-passes : goal.returns-in-Some-judge-clause-passes
 returns-in-Some-judge-clause-passes g c = λ frame.

@@ -1,5 +1,5 @@
 use Rattle.std.proofs.Common.{◌≡◌, refl, ap, ◌∙◌}
-use Rattle.pb_ask.specs.declared.question.Outcome.TheVariants.{Answer}
+use Rattle.pb_ask.specs.declared.question.Conclusion.TheVariants.{Answer}
 use Rattle.pb_collect.specs.declared.answer.Said.{Said}
 use Rattle.pb_collect.proofs.progress.Progress.next.Goals as goal
 
