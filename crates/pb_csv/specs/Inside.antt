@@ -1,17 +1,20 @@
 -- Steps of the calls, which no promise names.
-use Rattle.std.specs.Prelude.{◌≡◌, ◌<◌, ℕ, Bool, true, false, List, [], ◌∷◌, ◌++◌, map, Option, Some, Result, Ok, Err}
+use Rattle.std.specs.Prelude.{◌≡◌, ◌<◌, ℕ, Bool, true, false, List, [], ◌∷◌, ◌++◌, map, Option, Some, Result, Ok, Err, IfErr}
 use Rattle.std.specs.List.{flat_map}
 use Rattle.csv.specs.Writing.{default_writer, fields_text}
 use Rattle.pb_io.specs.Page.{Adds, Printing}
+use Rattle.pb_io.specs.View.{View}
+use Rattle.pb_journal.specs.Inside.{Peeks}
 use Rattle.pb_tdf.specs.View.{FieldView, TableView}
 use Rattle.pb_value.specs.Values.{IsRecordOf}
 use Rattle.pb_archive.specs.Reader.{Reader, Awaits}
 use Rattle.pb_archive.specs.Rows.{SeenRow}
 use Rattle.pb_archive.specs.declared.row.Row.{Row}
 use Rattle.pb_archive.specs.declared.row.Row.TheVariants as row
+use Rattle.pb_csv.specs.Export.{ExportRefuses, HasCauseOf}
 use Rattle.pb_csv.specs.CsvText.{csv_lines, csv_row, empty_field, lines_text, row_fields}
 use Rattle.pb_csv.specs.declared.fault.ExportFault.{ExportFault}
-use Rattle.pb_csv.specs.declared.fault.ExportFault.TheVariants.{DiskFault, Format, Memory}
+use Rattle.pb_csv.specs.declared.fault.ExportFault.TheVariants.{DiskFault, Format, Memory, WriteFault}
 use Rattle.pb_archive.specs.declared.fault.ArchiveFault.{ArchiveFault}
 use Rattle.pb_archive.specs.declared.fault.ArchiveFault.TheVariants as archive
 use Rattle.pb_csv.specs.declared.columns.Columns.{Columns}
@@ -33,6 +36,13 @@ of_archive archive.TooMany = Memory
 of_archive archive.Memory = Memory
 
 -- ---- rows
+
+-- Rows were read: the disk was only looked at, a refusal has its cause, and none is of a write.
+pub record ReadsRows {T : Type 0} (old new : View) (result : Result T ExportFault) : Type 0 where
+  pub peeks : Peeks old new
+  pub refused : IfErr result (ExportRefuses old.file)
+  pub no_write : IfErr result (λ fault. fault ≡ WriteFault → ⊥)
+  pub cause : HasCauseOf DiskFault old.faults new.faults result
 
 -- a row that can be printed: a record of the table, or a gap of at least one number
 abbrev pub CanPrint : TableView → Row → Type 0

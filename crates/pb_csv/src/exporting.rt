@@ -5,13 +5,12 @@ ghost use Rattle.pb_io.specs.Disk.{ReadsOnly};
 ghost use Rattle.pb_io.specs.Page.{Adds, printing};
 ghost use Rattle.pb_io.specs.Settled.{Leaves};
 ghost use Rattle.pb_journal.specs.Changes.{Same};
-ghost use Rattle.pb_journal.specs.Inside.{Peeks};
 ghost use Rattle.pb_archive.specs.Opened.{IsOpen};
 ghost use Rattle.pb_archive.specs.Reader.{HasRows};
 ghost use Rattle.pb_archive.specs.Refusals.{NeedsOpening};
 ghost use Rattle.pb_archive.specs.Rows.{SeenRow};
 ghost use Rattle.pb_csv.specs.Export.{Exported, IsRange, ExportRefuses, HasCauseOf};
-ghost use Rattle.pb_csv.specs.Inside.{PutsRow, PutsFirst, PutsLines, of_archive};
+ghost use Rattle.pb_csv.specs.Inside.{ReadsRows, PutsRow, PutsFirst, PutsLines, of_archive};
 
 use crate::fault::ExportFault;
 use crate::printer::Printer;
@@ -50,11 +49,7 @@ fn put_row<D: Disk, O: Sink>(
     ensures to { rows.new.to ≡ rows.old.to }
     ensures table { printer.new.table.now ≡ printer.old.table.now }
     ensures layout { rows.new.layout ≡ rows.old.layout }
-    ensures refused { IfErr result (ExportRefuses (D.view disk.old).file) }
-    ensures no_write { IfErr result (λ fault. fault ≡ ExportFault.WriteFault → ⊥) }
-    ensures peeks { Peeks (D.view disk.old) (D.view disk.new) }
-    ensures cause { HasCauseOf ExportFault.DiskFault (D.view disk.old).faults (D.view disk.new).faults
-        result }
+    ensures reads { ReadsRows (D.view disk.old) (D.view disk.new) result }
 {
     match rows.next(disk) {
         Ok(true) => {}
@@ -83,11 +78,7 @@ fn put_rows<D: Disk, O: Sink>(
     ensures puts { PutsFirst printer.old.table.now.fields (printing O.Sink page.old out.old)
         (printing O.Sink page.new out.new)
         rows.old (D.view disk.old).file (is_ok result) }
-    ensures refused { IfErr result (ExportRefuses (D.view disk.old).file) }
-    ensures no_write { IfErr result (λ fault. fault ≡ ExportFault.WriteFault → ⊥) }
-    ensures peeks { Peeks (D.view disk.old) (D.view disk.new) }
-    ensures cause { HasCauseOf ExportFault.DiskFault (D.view disk.old).faults (D.view disk.new).faults
-        result }
+    ensures reads { ReadsRows (D.view disk.old) (D.view disk.new) result }
 {
     loop {
         match put_row(alloc, printer, rows, disk, page, out) {
@@ -112,11 +103,7 @@ fn put_lines<D: Disk, O: Sink>(
     ensures puts { PutsLines printer.old.table.now.fields (printing O.Sink page.old out.old)
         (printing O.Sink page.new out.new)
         rows.old (D.view disk.old).file (is_ok result) }
-    ensures refused { IfErr result (ExportRefuses (D.view disk.old).file) }
-    ensures no_write { IfErr result (λ fault. fault ≡ ExportFault.WriteFault → ⊥) }
-    ensures peeks { Peeks (D.view disk.old) (D.view disk.new) }
-    ensures cause { HasCauseOf ExportFault.DiskFault (D.view disk.old).faults (D.view disk.new).faults
-        result }
+    ensures reads { ReadsRows (D.view disk.old) (D.view disk.new) result }
 {
     match printer.header(alloc) {
         Ok(()) => {}

@@ -28,7 +28,7 @@ returns-in-Ok-flush-clause-text g c held is =
     let range : Range = record { id = c.args.id.0; from = c.args.from.0; to = c.args.to.0 } in
     let same = c.in-Ok-new.ensures ∙ ap (λ (h : Held). h.table) (same_Some _ _ (c.in-Some.ensures.table ∙ is)) in
     written range held.table.fields (g.D.Disk.view c.args.disk.now).file c.in-Ok.rows (λ f view. c.in-Ok.ensures.begins f (c.requires.opened.stands f view))
-    _ _ _ _ _ _ c.put_lines-result.result c.new-page.ensures (lines_as _ _ _ _ _ _ _ same c.put_lines-result.ensures.puts) c.flush.ensures.adds c.in-Ok-flush.ensures.whole c.put_lines-result.ensures.no_write
+    _ _ _ _ _ _ c.put_lines-result.result c.new-page.ensures (lines_as _ _ _ _ _ _ _ same c.put_lines-result.ensures.puts) c.flush.ensures.adds c.in-Ok-flush.ensures.whole c.put_lines-result.ensures.reads.no_write
 
 pub returns-clause-text : goal.returns-clause-text
 returns-clause-text g c held is =

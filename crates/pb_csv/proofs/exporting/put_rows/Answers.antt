@@ -29,8 +29,8 @@ loop-fault-preserved g c =
       table = c.put_row.ensures.table ∙ was.table;
       layout = c.put_row.ensures.layout ∙ was.layout;
       puts = rows_next c.args.printer.now.table.now.fields _ _ _ c.args.rows.now c.loop-fault.rows c.put_row.new.rows _ next.0 was.puts next.1 next.2;
-      peeks = Peeks-trans _ _ _ was.peeks c.put_row.ensures.peeks;
-      kept = c.in-Ok-true.ensures.cause.kept (λ e. cc e) (λ e. cc e) ∙ was.kept;
+      peeks = Peeks-trans _ _ _ was.peeks c.put_row.ensures.reads.peeks;
+      kept = c.in-Ok-true.ensures.reads.cause.kept (λ e. cc e) (λ e. cc e) ∙ was.kept;
     }
 
 pub returns-in-Ok-false-clause-puts : goal.returns-in-Ok-false-clause-puts
