@@ -153,7 +153,11 @@ new_table plan station number definition =
     record {
       me = plan.me;
       station = station;
-      key = record { station = address_of (slice_get plan.stations station); number = number; signature = signature_of definition };
+      key = record {
+        station = address_of (slice_get plan.stations station);
+        number = number;
+        signature = signature_of definition;
+      };
       definition = definition;
       rows = [];
       stop = None;
@@ -161,7 +165,8 @@ new_table plan station number definition =
 
 -- Tables are numbered from 0 in the order of their entries.
 abbrev pub archive_after : Archive → Change → Archive
-archive_after a (Added station number definition) = record a { tables = a.tables ++ new_table a.plan station number definition ∷ [] }
+archive_after a (Added station number definition) =
+    record a { tables = a.tables ++ new_table a.plan station number definition ∷ [] }
 archive_after a (Advanced id advance) =
     record a { tables = changed_at id (λ t. grown advance.first (contents (record_layout t.definition) advance) t) a.tables }
 archive_after a (Stopped id stop) = record a { tables = changed_at id (stopped stop) a.tables }

@@ -79,13 +79,15 @@ GivesFirst given r view is_whole = (file : List ℕ) (all : List SeenRow) → vi
     → (rest : List SeenRow) × (all ≡ given ++ rest) × (is_whole ≡ true → rest ≡ [])
 
 -- the rows to come were added to the page; where a call was refused, the first of them
-pub record PutsFirst (fields : List FieldView) (p q : Printing) (r : Reader) (view : Option (List ℕ)) (is_whole : Bool) : Type 0 where
+pub record PutsFirst (fields : List FieldView) (p q : Printing) (r : Reader) (view : Option (List ℕ))
+    (is_whole : Bool) : Type 0 where
   pub given : List SeenRow
   pub adds : Adds (flat_map (row_line fields) given) p q
   pub known : GivesFirst given r view is_whole
 
 -- Some lines were added to the page, each of them whole; on Ok all.
-pub record PutsLines (fields : List FieldView) (p q : Printing) (r : Reader) (view : Option (List ℕ)) (is_whole : Bool) : Type 0 where
+pub record PutsLines (fields : List FieldView) (p q : Printing) (r : Reader) (view : Option (List ℕ))
+    (is_whole : Bool) : Type 0 where
   pub given : List SeenRow
   pub lines : List (List ℕ)
   pub missing : List (List ℕ)
