@@ -1,7 +1,6 @@
 -- How what calls keep that read definitions goes on from call to call.
-use Rattle.std.proofs.Common.{◌≡◌, ◌⊎◌, inl, inr, ℕ, List, [], ◌++◌, Some, All, refl, sym, ◌∙◌, ap, subst, append_assoc, append-nil}
+use Rattle.std.proofs.Common.{◌≡◌, ◌⊎◌, inl, inr, ℕ, List, All, refl, sym, ◌∙◌, ap, subst}
 use Rattle.std.specs.Prelude.{Option}
-use Rattle.std.proofs.lemmas.Option.{same_Some}
 use Rattle.std.proofs.lemmas.List.Elements.{All-contains}
 use Rattle.pb_base.specs.World.{World, sent}
 use Rattle.pb_base.specs.Request.{Request}
@@ -9,7 +8,7 @@ use Rattle.pb_io.specs.View.{View, IsLawful, LeavesOnly}
 use Rattle.pb_io.specs.Disk.{ReadsOnly}
 use Rattle.pb_io.specs.Crash.{Changes}
 use Rattle.pb_io.specs.Settled.{IsSettled, LeftBy, Leaves}
-use Rattle.pb_io.proofs.Moments.{started, LeavesOnly-trans, LeavesOnly-weaker}
+use Rattle.pb_io.proofs.Moments.{LeavesOnly-weaker}
 use Rattle.pb_journal.specs.Changes.{SameEntries, Keeps as KeepsEntries}
 use Rattle.pb_journal.proofs.EntryLemmas.{rests_entries}
 use Rattle.pb_journal.proofs.LawLemmas.{one_list}
@@ -22,9 +21,9 @@ use Rattle.pb_archive.proofs.RegisterLemmas.{kept_after}
 use Rattle.pb_archive.proofs.WritingLemmas.{Extends-trans, Extends-after}
 use Rattle.pb_ask.specs.Events.{Resending, Passes}
 use Rattle.pb_truth.specs.Asked.{IsIn, WasAsked}
-use Rattle.pb_truth.specs.Image.{Good, StaysTrue}
-use Rattle.pb_truth.specs.Pairs.{AreGood, AsksAllowed}
-use Rattle.pb_truth.proofs.ViewLemmas.{good_asks, good_start, good_then, good_writes}
+use Rattle.pb_truth.specs.Image.{StaysTrue}
+use Rattle.pb_truth.specs.Pairs.{AsksAllowed}
+use Rattle.pb_truth.proofs.ViewLemmas.{good_asks, good_writes}
 use Rattle.pb_collect.specs.Adding.{Adds, HoldsAtLeast, StaysOrGrows}
 use Rattle.pb_collect.specs.Defining.{DiskKeeps}
 use Rattle.pb_collect.specs.Kept.{AllGoOnBy, GoesOnBy}

@@ -1,4 +1,4 @@
-use Rattle.std.proofs.Common.{◌≡◌, ◌-◌, ◌*◌, ◌^◌, ◌≤◌, length, vec_capacity}
+use Rattle.std.proofs.Common.{◌-◌, ◌*◌, ◌^◌, ◌≤◌, length, vec_capacity}
 use Rattle.pb_archive.specs.Entry.{tables_max}
 use Rattle.pb_archive.specs.Opened.{register_of}
 use Rattle.pb_collect.specs.Exchanges.{Goes}

@@ -5,8 +5,7 @@ use Rattle.std.proofs.lemmas.Option.{none-some}
 use Rattle.pb_tdf.specs.Numbering.{numbered}
 use Rattle.pb_tdf.specs.View.{TableView}
 use Rattle.pb_archive.specs.Plan.{Plan}
-use Rattle.pb_archive.specs.Opened.{OpenArchive, Register, register_of}
-use Rattle.pb_io.specs.View.{View}
+use Rattle.pb_archive.specs.Opened.{Register, register_of}
 use Rattle.pb_collect.specs.Defining.{TableCame, TablesCame}
 use Rattle.pb_collect.specs.declared.report.DefsLine.{DefsLine as Line}
 use Rattle.pb_collect.proofs.AddingLemmas.{disk_none, disk_trans}

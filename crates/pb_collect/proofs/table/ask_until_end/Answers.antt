@@ -1,4 +1,4 @@
-use Rattle.std.proofs.Common.{◌≤◌, ◌+◌, List, ℕ, [], refl, sym, ◌∙◌, ap, subst, arith, add-one}
+use Rattle.std.proofs.Common.{◌≤◌, ◌+◌, List, ℕ, [], refl, sym, ap, subst, arith, add-one}
 use Rattle.pb_base.specs.Record.{content_len}
 use Rattle.pb_base.specs.declared.layout.Layout.{Layout}
 use Rattle.pb_archive.specs.Entry.{advance_bytes_max}
