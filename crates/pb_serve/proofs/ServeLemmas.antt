@@ -195,6 +195,7 @@ fail_leads k new hearing byte content vs old now e going follows one sends first
       is_owed = is;
       events = happened;
     }
+
     unsent : (f : List ℕ) → (owed s.state content).frames ≡ f ∷ [] → GrowsBy old.world now.world (Sent f ∷ []) ⊎ GrowsBy old.world now.world [] → Leads first k.goal w old now (Some LinkFault) new rest
     unsent f is (inl grows) = record { more = Sent f ∷ []; grows = grows; leads = inr (unserved f (w ++ Sent f ∷ []) is (inl refl)) }
     unsent f is (inr grows) = record { more = []; grows = grows; leads = inr (unserved f (w ++ []) is (inr (append-nil w))) }
