@@ -231,8 +231,8 @@ abbrev pub StillAwaits : Reader → Reader → Option (List ℕ) → Type 0
 StillAwaits old new view = (file : List ℕ) (rows : List SeenRow) → view ≡ Some file → Awaits old file rows → Awaits new file rows
 
 -- the next row was read
-abbrev pub Takes : Reader → Reader → Type 0
-Takes old new = (file : List ℕ) (rows : List SeenRow) → Awaits old file rows → ReadRow new file rows true
+abbrev pub NextIsRead : Reader → Reader → Type 0
+NextIsRead old new = (file : List ℕ) (rows : List SeenRow) → Awaits old file rows → ReadRow new file rows true
 
 -- ---- making an archive
 

@@ -56,7 +56,7 @@ impl<'a> Model for Rows<'a> {
 }
 
 impl<'a> Rows<'a> {
-    ghost use Rattle.pb_archive.specs.Inside.{IsKnown, SameRows, StillAwaits, Takes};
+    ghost use Rattle.pb_archive.specs.Inside.{IsKnown, NextIsRead, SameRows, StillAwaits};
     ghost use Rattle.pb_archive.specs.Reader.{HasRows, MovesOver, ReadsRow, SameTable};
     ghost use Rattle.pb_archive.specs.Refusals.{HasDiskCause, RowRefuses};
     ghost use Rattle.pb_archive.specs.Rows.{HasRecord, seen_row};
@@ -122,7 +122,7 @@ impl<'a> Rows<'a> {
     fn take(&mut self)
         requires more { self.old.next < self.old.to }
         requires known { IsKnown self.old }
-        ensures takes { Takes self.old self.new }
+        ensures takes { NextIsRead self.old self.new }
         ensures moves { MovesOver self.old self.new true }
         ensures same { SameTable self.old self.new }
     {

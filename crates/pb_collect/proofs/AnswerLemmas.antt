@@ -34,7 +34,7 @@ use Rattle.pb_truth.proofs.TableLemmas.{each_once, is_kept}
 use Rattle.pb_collect.specs.Commands.{IsCommandOf}
 use Rattle.pb_collect.specs.Heard.{IsAllowedIn, HasHeard}
 use Rattle.pb_collect.specs.Kept.{KnowsTrue}
-use Rattle.pb_collect.specs.Progress.{Progress, partial_bytes, Fits}
+use Rattle.pb_collect.specs.Progress.{Progress, partial_bytes, Suits}
 use Rattle.pb_collect.specs.Taking.{bytes_in, IsBrief, AreBrief, IsReady}
 use Rattle.pb_collect.specs.declared.answer.Said.{Said}
 use Rattle.pb_collect.specs.declared.question.CollectCommand.{CollectCommand}
@@ -142,7 +142,7 @@ module _ (o : OpenArchive) (now : View) (id : ℕ) (p : Progress) (opened : IsOp
 
   -- what is known of the table once the answer is taken in
   pub knows_heard : ContentEnds → (said : Said) (l : Listening) (reply : SeenReply) → AreGood now → ((w : World) (image : List ℕ) (a : Archive) → now.link.world ≡ Some w → now.image image → HasArchive image a → Honest w a)
-      → KnowsTrue now id (partial_bytes p) [] → HasHeard c said l now.link → CollectReads c.table.0 c.layout reply (drop 8 l.ear.content) → reply.resp ≡ 0 → Fits c.mode reply → KnowsTrue now id (partial_bytes p) reply.fragments
+      → KnowsTrue now id (partial_bytes p) [] → HasHeard c said l now.link → CollectReads c.table.0 c.layout reply (drop 8 l.ear.content) → reply.resp ≡ 0 → Suits c.mode reply → KnowsTrue now id (partial_bytes p) reply.fragments
   knows_heard ends said l reply good honest knows h reads complete fits w image a t world is has at =
       let k : Known = record { table = t; partial = partial_bytes p } in
       let asked = asked_at image a t is has at in
@@ -159,4 +159,4 @@ module _ (o : OpenArchive) (now : View) (id : ℕ) (p : Progress) (opened : IsOp
             (subst (λ n. CollectReads n c.layout reply (drop 8 l.ear.content)) asked.number reads));
         complete = complete;
       })
-      (fits_known p k reply far (subst (λ m. Fits m reply) of.to.mode fits) complete)
+      (fits_known p k reply far (subst (λ m. Suits m reply) of.to.mode fits) complete)

@@ -32,7 +32,7 @@ use Rattle.pb_collect.specs.Complete.{HeardAt, key_of}
 use Rattle.pb_collect.specs.Ends as ends
 use Rattle.pb_collect.specs.Ends.{Comes, asked_once_more, has_part, kept_partial}
 use Rattle.pb_collect.specs.Exchanges.{Exchanged, Took, TookBy}
-use Rattle.pb_collect.specs.Progress.{Progress, CanTakeAll, Fits, IsAt, after_all, partial_bytes}
+use Rattle.pb_collect.specs.Progress.{Progress, CanTakeAll, Suits, IsAt, after_all, partial_bytes}
 use Rattle.pb_collect.specs.Question.{command_request}
 use Rattle.pb_collect.specs.Tables.{Asked, EndedBy, Point, Requested, Requests}
 use Rattle.pb_collect.specs.declared.answer.Said.{Said}
@@ -211,7 +211,7 @@ module _ (first last : World) (undisturbed : Undisturbed first last) (laws : Fra
     its_reads = subst (λ (l : Layout). CollectReads q.command.table.0 l took.reply (drop 8 to.channel.listener.ear.content)) q.of.layout took.reads
 
     can : CanTakeAll from.progress took.reply.fragments
-    can = all_can from.progress q.command.table.0 took.reply (drop 8 to.channel.listener.ear.content) its_reads resp_is (subst (λ m. Fits m took.reply) q.of.mode took.fits)
+    can = all_can from.progress q.command.table.0 took.reply (drop 8 to.channel.listener.ear.content) its_reads resp_is (subst (λ m. Suits m took.reply) q.of.mode took.fits)
 
     -- an exchange that begins after this world gives the answer
     Heard : World → Type 0

@@ -12,7 +12,7 @@ use Rattle.pb_truth.specs.Learning.{Known, without_partial, BeginsFrom, BeginsWi
 use Rattle.pb_truth.proofs.LearningLemmas.{front-grown, length-run}
 use Rattle.pb_collect.specs.Ends.{has_part, kept_partial, asked_once_more, known_after}
 use Rattle.pb_collect.specs.Inside.{first_records, FirstFrom, FirstIsPart}
-use Rattle.pb_collect.specs.Progress.{Progress, IsAt, partial_bytes, taken_to, question, BeginsAsAsked, Fits, IsNextPart, CanTake, after_bytes, after}
+use Rattle.pb_collect.specs.Progress.{Progress, IsAt, partial_bytes, taken_to, question, BeginsAsAsked, Suits, IsNextPart, CanTake, after_bytes, after}
 
 -- ---- what comes first
 
@@ -58,7 +58,7 @@ fits_asked : (n : ℕ) (is_partial : Bool) (joined : List ℕ) (fs : List SeenFr
 fits_asked n true joined fs h = fits_partial n joined fs h
 fits_asked n false joined fs h = h
 
-pub fits_known : (p : Progress) (k : Known) (reply : SeenReply) → IsAt p k → Fits (question p) reply → reply.resp ≡ 0 → FitsKnown k reply.fragments
+pub fits_known : (p : Progress) (k : Known) (reply : SeenReply) → IsAt p k → Suits (question p) reply → reply.resp ≡ 0 → FitsKnown k reply.fragments
 fits_known p k reply at fits complete =
     let here : FitsNext p.front (partial_bytes p) reply.fragments = fits_asked p.front p.is_partial p.joined reply.fragments (fits complete) in
     subst (λ have. FitsNext (front k.table) have reply.fragments) at.partial (subst (λ n. FitsNext n (partial_bytes p) reply.fragments) at.front here)
@@ -118,14 +118,14 @@ known_taken p k (part number offset bytes) can at = part_known p k number offset
 -- ---- whether a reply fits, by what comes first
 
 pub from_fits : (mode : Mode) (n : ℕ) (reply : SeenReply) (first : Option SeenFragment) (r : Bool) → mode ≡ From n → first ≡ first_records reply.fragments → reply.resp ≡ 0 → IsTrue r ↔ FirstFrom n first
-    → IsTrue r ↔ Fits mode reply
+    → IsTrue r ↔ Suits mode reply
 from_fits mode n reply first r is same complete iff = (
   λ t e. subst (λ m. BeginsAsAsked m reply.fragments) (sym is) (from_first n reply.fragments (subst (λ f. FirstFrom n f) same (iff.0 t))),
   λ fits. iff.1 (subst (λ f. FirstFrom n f) (sym same) (to_first n reply.fragments (subst (λ m. BeginsAsAsked m reply.fragments) is (fits complete)))),
 )
 
 pub part_fits : (mode : Mode) (n from : ℕ) (reply : SeenReply) (first : Option SeenFragment) (r : Bool) → mode ≡ Part n from → first ≡ first_records reply.fragments → reply.resp ≡ 0 → IsTrue r ↔ FirstIsPart n from first
-    → IsTrue r ↔ Fits mode reply
+    → IsTrue r ↔ Suits mode reply
 part_fits mode n from reply first r is same complete iff = (
   λ t e. subst (λ m. BeginsAsAsked m reply.fragments) (sym is) (from_part n from reply.fragments (subst (λ f. FirstIsPart n from f) same (iff.0 t))),
   λ fits. iff.1 (subst (λ f. FirstIsPart n from f) (sym same) (to_part n from reply.fragments (subst (λ m. BeginsAsAsked m reply.fragments) is (fits complete)))),

@@ -5,7 +5,7 @@ use Rattle.std.proofs.lemmas.Bool.{false≢true}
 use Rattle.pb_bmp5.specs.CollectReply.{SeenFragment, whole, part, SeenReply, Begins, AreFragments, CollectReads}
 use Rattle.pb_truth.specs.Learning.{BeginsFrom, BeginsWithPart}
 use Rattle.pb_truth.proofs.LearningLemmas.{part_is_last, fragments_in}
-use Rattle.pb_collect.specs.Progress.{Progress, partial_bytes, question, BeginsAsAsked, Fits, IsNextPart, IsNextRun, taken_to, CanTakeAll}
+use Rattle.pb_collect.specs.Progress.{Progress, partial_bytes, question, BeginsAsAsked, Suits, IsNextPart, IsNextRun, taken_to, CanTakeAll}
 
 -- ---- where what goes on begins
 
@@ -68,7 +68,7 @@ open_can table p before (part number offset bytes ∷ f ∷ fs) last body are be
 abbrev closed_or_not : Progress → Bool → Progress
 closed_or_not p b = record p { is_partial = b }
 
-pub all_can : (p : Progress) (table : ℕ) (reply : SeenReply) (message : List ℕ) → CollectReads table p.layout reply message → reply.resp ≡ 0 → Fits (question p) reply
+pub all_can : (p : Progress) (table : ℕ) (reply : SeenReply) (message : List ℕ) → CollectReads table p.layout reply message → reply.resp ≡ 0 → Suits (question p) reply
     → CanTakeAll p reply.fragments
 all_can p table reply message reads complete fits =
     let are = fragments_in table p.layout reply.resp reply.more reply.fragments reads.body complete reads.has in

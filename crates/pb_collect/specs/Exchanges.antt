@@ -16,7 +16,7 @@ use Rattle.pb_collect.specs.Question.{AsksOnce, wanted_reply}
 use Rattle.pb_collect.specs.declared.broken.Broken.{Broken}
 use Rattle.pb_collect.specs.declared.broken.Broken.TheVariants.{DiskFault, LinkFault}
 use Rattle.pb_collect.specs.declared.ending.Next.{Next}
-use Rattle.pb_collect.specs.Progress.{Progress, Fits, partial_bytes, after_all}
+use Rattle.pb_collect.specs.Progress.{Progress, Suits, partial_bytes, after_all}
 use Rattle.pb_collect.specs.declared.answer.Said.{Said}
 use Rattle.pb_collect.specs.declared.question.CollectCommand.{CollectCommand}
 
@@ -28,7 +28,7 @@ ReadsNow c l reply = CollectReads c.table.0 c.layout reply (drop 8 l.ear.content
 pub record Took (c : CollectCommand) (l : Listening) (said : Said) (old mid : Progress) : Type 0 where
   pub reply : SeenReply
   pub reads : ReadsNow c l reply
-  pub fits : Fits c.mode reply
+  pub fits : Suits c.mode reply
   pub resp : reply.resp ≡ said.resp
   pub more : reply.more ≡ said.more
   pub taken : said.resp ≡ 0 → mid ≡ after_all old reply.fragments
@@ -43,7 +43,7 @@ TookBy c l Flooded old mid = mid ≡ old
 -- what an answer with response code 0 teaches is true
 abbrev pub TeachesTrue : CollectCommand → Listening → View → ℕ → Progress → Conclusion Said → Type 0
 TeachesTrue c l now id p (Answer said) =
-    said.resp ≡ 0 → (reply : SeenReply) → ReadsNow c l reply → reply.resp ≡ 0 → Fits c.mode reply
+    said.resp ≡ 0 → (reply : SeenReply) → ReadsNow c l reply → reply.resp ≡ 0 → Suits c.mode reply
     → KnowsTrue now id (partial_bytes p) reply.fragments
 TeachesTrue c l now id p (Undelivered code) = ⊤
 TeachesTrue c l now id p NoAnswer = ⊤

@@ -69,9 +69,9 @@ BeginsAsAsked (Newest count) fs = ⊥
 BeginsAsAsked (Range from to) fs = ⊥
 BeginsAsAsked (Times from to) fs = ⊥
 
--- A reply that was read fits the request of this mode. One with a response code other than 0 fits.
-abbrev pub Fits : Mode → SeenReply → Type 0
-Fits mode reply = reply.resp ≡ 0 → BeginsAsAsked mode reply.fragments
+-- A reply that was read suits the request of this mode. One with a response code other than 0 does.
+abbrev pub Suits : Mode → SeenReply → Type 0
+Suits mode reply = reply.resp ≡ 0 → BeginsAsAsked mode reply.fragments
 
 -- ---- what can be taken
 

@@ -10,7 +10,7 @@ use Rattle.pb_bmp5.specs.CollectReply.{SeenReply, CollectReads}
 use Rattle.pb_bmp5.specs.Message.{Collect, CollectKeys, message_bytes}
 use Rattle.pb_ask.specs.Wanted.{Wanted}
 use Rattle.pb_truth.specs.Asked.{request_of, IsIn}
-use Rattle.pb_collect.specs.Progress.{Fits}
+use Rattle.pb_collect.specs.Progress.{Suits}
 use Rattle.pb_collect.specs.declared.answer.Said.{Said}
 use Rattle.pb_collect.specs.declared.question.CollectCommand.{CollectCommand}
 
@@ -54,7 +54,7 @@ AsksOnce c = (r : Request) → IsIn r (command_frame c) → r ≡ command_reques
 pub record MeansReply (c : CollectCommand) (said : Said) (message : List ℕ) : Type 0 where
   pub reply : SeenReply
   pub reads : CollectReads c.table.0 c.layout reply message
-  pub fits : Fits c.mode reply
+  pub fits : Suits c.mode reply
   pub resp : reply.resp ≡ said.resp
   pub more : reply.more ≡ said.more
 

@@ -2,7 +2,7 @@
 ghost use Rattle.std.specs.Prelude.{◌≡◌, ◌↔◌, ◌≤◌, IsTrue, option_map};
 ghost use Rattle.pb_bmp5.specs.CollectReply.{seen_of};
 ghost use Rattle.pb_collect.specs.Inside.{first_records, FirstFrom, FirstIsPart};
-ghost use Rattle.pb_collect.specs.Progress.{Fits};
+ghost use Rattle.pb_collect.specs.Progress.{Suits};
 
 use pb_bmp5::{CollectReply, Fragment, Fragments, Mode};
 
@@ -19,7 +19,7 @@ pub struct Said {
 /// begins as asked. For records from a number on that is with one of this number or above, whole or from its first byte
 /// on; for a part of a record it is with exactly that part. A reply that doesn't fit is passed over (of this project).
 pub fn fits(mode: Mode, reply: &CollectReply) -> bool
-    ensures { IsTrue result ↔ Fits mode reply.now }
+    ensures { IsTrue result ↔ Suits mode reply.now }
 {
     if reply.resp != 0 {
         return true;

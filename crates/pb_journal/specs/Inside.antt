@@ -50,10 +50,10 @@ abbrev pub ShowsGate : Chunk → ℕ → ℕ → Gate → List ℕ → Type 0
 ShowsGate chunk place end gate file = Shows chunk file → GateIs (part file place end) gate
 
 -- an entry ends before the end of the file
-abbrev pub Fits : Gate → ℕ → Type 0
-Fits (Open size) left = (0 < size) × (lead_len + size < left)
-Fits Closed left = ⊤
-Fits Broken left = ⊤
+abbrev pub EndsWithin : Gate → ℕ → Type 0
+EndsWithin (Open size) left = (0 < size) × (lead_len + size < left)
+EndsWithin Closed left = ⊤
+EndsWithin Broken left = ⊤
 
 -- whole entries come before this place
 pub record Walked (file : List ℕ) (place : ℕ) : Type 0 where

@@ -2,7 +2,7 @@
 ghost use Rattle.std.specs.Prelude.{◌≡◌, ℕ, ◌-◌, ◌<◌, ◌≤◌, min, List, length, take, IfOk};
 ghost use Rattle.std.specs.Option.{ForSome};
 ghost use Rattle.pb_io.specs.Faults.{HasCause};
-ghost use Rattle.pb_journal.specs.Inside.{Fits, GateIs, Peeks, ShowsGate};
+ghost use Rattle.pb_journal.specs.Inside.{EndsWithin, GateIs, Peeks, ShowsGate};
 ghost use Rattle.pb_journal.specs.Window.{Shows};
 ghost use Rattle.pb_journal.specs.Entries.{lead_len};
 
@@ -30,7 +30,7 @@ fn gate_of(prefix: &[u8], left: u64) -> Gate
     requires prefix { length prefix.now ≡ min left lead_len }
     ensures is { (tail : List ℕ) → length tail ≡ left → prefix.now ≡ take (min left lead_len) tail
         → GateIs tail result }
-    ensures fits { Fits result left }
+    ensures fits { EndsWithin result left }
 {
     if prefix[0] != OPEN || left == 1 {
         return Gate::Closed;
@@ -60,7 +60,7 @@ pub(crate) fn look<D: Disk>(
     requires file { ForSome (D.view disk.old).file (λ f. end ≤ length f) }
     ensures gate { IfOk result (λ gate. ForSome (D.view disk.old).file
         (ShowsGate window.old place end gate)) }
-    ensures fits { IfOk result (λ gate. Fits gate (end - place)) }
+    ensures fits { IfOk result (λ gate. EndsWithin gate (end - place)) }
     ensures shows { ForSome (D.view disk.old).file (λ f. Shows window.old f → Shows window.new f) }
     ensures held { window.new.held ≡ window.old.held }
     ensures peeks { Peeks (D.view disk.old) (D.view disk.new) }

@@ -29,7 +29,7 @@ use Rattle.pb_serve.specs.declared.server.End.TheVariants.{Done, Idle, Flooded, 
 use Rattle.pb_io.specs.ChangeLog.{arrival}
 use Rattle.std.specs.Prelude.{Bool, true, false, ◌==◌}
 use Rattle.std.proofs.lemmas.Bool.{true≢false, ne_eqb}
-use Rattle.pb_serve.specs.Inside.{Kept, Stands, IsGoing, Leads, LeadsByte, SendsOwed, Takes, moment_of, passed, answered}
+use Rattle.pb_serve.specs.Inside.{Kept, Stands, IsGoing, Leads, LeadsByte, SendsOwed, IsHandled, moment_of, passed, answered}
 
 -- ---- good frames
 
@@ -269,7 +269,7 @@ arrived [] some = absurd (omega arith)
 arrived (x ∷ bytes) some = refl
 
 pub tick_takes : (first : station.State) (k new : Kept) (w : World) (bytes : List ℕ) (link : Link) (r : Option End) → bytes ≡ [] → IsGoing k → new ≡ record k { quiets = k.quiets + 1 } → MatchOption r (IsGoing new) (λ end. (end ≡ Idle) × (new.quiets ≡ 600))
-    → Stands first k w [] → Takes first k.goal w bytes link link r new
+    → Stands first k w [] → IsHandled first k.goal w bytes link link r new
 tick_takes first k new w bytes link r none going is h s =
     let after = subst (λ (x : Kept). Stands first x (w ++ Quiet ∷ []) []) (sym is) (stands_tick first k w s going) in
     record {
@@ -286,7 +286,7 @@ tick_takes first k new w bytes link r none going is h s =
         (subst (λ (n : ℕ). Ends first n (w ++ Quiet ∷ []) Idle) (ap (λ (x : Kept). x.goal) is) (moment_of new after.judged [] after.state, after.serving, h.1)))
 
 pub chunk_takes : (first : station.State) (k new : Kept) (w : World) (bytes : List ℕ) (old now : Link) (r : Option End) → 0 < length bytes → length bytes ≤ 4096 → IsGoing k
-    → ((first : station.State) (w : World) → Stands first (record k { quiets = 0 }) w bytes → Leads first k.goal w old now r new []) → Stands first k w [] → Takes first k.goal w bytes old now r new
+    → ((first : station.State) (w : World) → Stands first (record k { quiets = 0 }) w bytes → Leads first k.goal w old now r new []) → Stands first k w [] → IsHandled first k.goal w bytes old now r new
 chunk_takes first k new w bytes old now r some few going leads s =
     let l = leads first (w ++ all_heard bytes) (stands_chunk first k w bytes s going some few) in
     record {
@@ -303,7 +303,7 @@ arrives old new (x ∷ given) (suc n) few h = h.0 (omega arith)
 -- ---- one call after another
 
 pub takes_on : (first : station.State) (goal : ℕ) (w : World) (bytes : List ℕ) (old mid got now : Link) (r : Option End) (k new : Kept) → GrowsBy old.world mid.world w → GrowsBy mid.world got.world (arrival bytes) → k.goal ≡ goal
-    → Takes first k.goal w bytes got now r new → (v : World) × GrowsBy old.world now.world v × MatchOption r (Stands first new v []) (λ end. Ends first goal v end)
+    → IsHandled first k.goal w bytes got now r new → (v : World) × GrowsBy old.world now.world v × MatchOption r (Stands first new v []) (λ end. Ends first goal v end)
 takes_on first goal w bytes old mid got now r k new grew came same t = (
   w ++ (arrival bytes ++ t.more),
   GrowsBy-trans old.world mid.world now.world w (arrival bytes ++ t.more) grew (GrowsBy-trans mid.world got.world now.world (arrival bytes) t.more came t.grows),

@@ -64,8 +64,8 @@ pub record Leads (first : station.State) (goal : ℕ) (w : World) (link_old link
   pub leads : MatchOption result (Stands first new (w ++ more) waiting) (λ end. Ends first goal (w ++ more) end)
 
 -- from a moment at which nothing waits on, what came of one call is judged
-pub record Takes (first : station.State) (goal : ℕ) (w : World) (bytes : List ℕ) (link_old link_new : Link) (result : Option End)
-    (new : Kept) : Type 0 where
+pub record IsHandled (first : station.State) (goal : ℕ) (w : World) (bytes : List ℕ) (link_old link_new : Link)
+    (result : Option End) (new : Kept) : Type 0 where
   pub more : World
   pub grows : GrowsBy link_old.world link_new.world more
   pub leads : MatchOption result (Stands first new (w ++ (arrival bytes ++ more)) [])

@@ -4,7 +4,7 @@ ghost use Rattle.pb_base.specs.World.{World};
 ghost use Rattle.pb_frame.specs.Hearing.{Follows};
 ghost use Rattle.pb_io.specs.Site.{GrowsBy};
 ghost use Rattle.pb_station.specs.State.{State, StandsFor};
-ghost use Rattle.pb_serve.specs.Inside.{Counts, GoesFurther, GoesOn, IsAlive, IsGoing, Leads, LeadsByte, Stands, Takes, passed};
+ghost use Rattle.pb_serve.specs.Inside.{Counts, GoesFurther, GoesOn, IsAlive, IsGoing, Leads, LeadsByte, Stands, IsHandled, passed};
 ghost use Rattle.pb_serve.specs.Serving.{Ends};
 ghost use Rattle.pb_serve.specs.Talks.{Talks};
 
@@ -126,7 +126,7 @@ impl Server {
         requires alive { IsAlive self.old }
         requires few { length bytes.now ≤ CHUNK }
         ensures takes { (first : State) (w : World) → Stands first self.old w []
-            → Takes first self.old.goal w bytes.now (S.view site.old).link (S.view site.new).link
+            → IsHandled first self.old.goal w bytes.now (S.view site.old).link (S.view site.new).link
             result self.new }
         ensures goes { GoesFurther result self.old self.new }
         ensures talks { Talks (S.view site.old) (S.view site.new) }

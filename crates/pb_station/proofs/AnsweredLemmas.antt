@@ -11,7 +11,7 @@ use Rattle.pb_station.specs.State.{DeviceState, State}
 use Rattle.pb_station.specs.Collect.{Collected, Refused, Sends, collected, reply_of, body}
 use Rattle.pb_station.specs.Files.{download, file_of}
 use Rattle.pb_station.specs.Answer.{Answer, InBmp5, stays, Replies, bmp5_packet, is_wrong, answer_clock, answer_collect, answer_upload, answer_download, upload_reply, download_reply}
-use Rattle.pb_station.specs.Inside.Answered.{IsAnswered}
+use Rattle.pb_station.specs.Inside.Answered.{IsGiven}
 use Rattle.pb_station.specs.Inside.Commands.{IsCollected}
 
 pub ok-collected : (x : Collected) (tran table : ℕ) (old new : List ℕ) (n : ℕ) → IsCollected x table old new (Ok n) → reply_of tran table x ≡ CollectReply tran 0 (take n new)
@@ -26,22 +26,22 @@ err-collected (Sends fragments more) tran table old new r c = absurd c
 -- a wrong code is refused
 pub denied-answered : (device : DeviceState) (code : ℕ) (otherwise : Answer) (m : Message) (header : Header) (old new : List ℕ) (result : Answered) → is_wrong device code ≡ true
     → Replies (bmp5_packet device.address header m) old new result
-    → IsAnswered (if is_wrong device code then stays device (InBmp5 m) else otherwise) device device header old new result
+    → IsGiven (if is_wrong device code then stays device (InBmp5 m) else otherwise) device device header old new result
 denied-answered device code otherwise m header old new result w r = rw w (record { leaves = refl; says = r })
 
 pub unadjusted-answered : (device after : DeviceState) (tran code : ℕ) (adjust : Nsec) (header : Header) (old new : List ℕ) (result : Answered) → is_wrong device code ≡ false
     → has_sum device.clock adjust ≡ false → after ≡ device → Replies (bmp5_packet device.address header (ClockReply tran 2 no_time)) old new result
-    → IsAnswered (answer_clock device tran code adjust) device after header old new result
+    → IsGiven (answer_clock device tran code adjust) device after header old new result
 unadjusted-answered device after tran code adjust header old new result w s e r = rw w (rw s (record { leaves = e; says = r }))
 
 pub collect-answered : (s : State) (tran : ℕ) (c : CollectKeys) (header : Header) (old new : List ℕ) (result : Answered) (m : Message) → is_wrong s.device c.code ≡ false
     → reply_of tran c.table (collected s.tables c) ≡ m → Replies (bmp5_packet s.device.address header m) old new result
-    → IsAnswered (answer_collect s tran c) s.device s.device header old new result
+    → IsGiven (answer_collect s tran c) s.device s.device header old new result
 collect-answered s tran c header old new result m w e r = rw w (record { leaves = refl; says = subst (λ (x : Message). Replies (bmp5_packet s.device.address header x) old new result) (sym e) r })
 
 pub upload-answered : (device : DeviceState) (tran : ℕ) (u : UploadKeys) (f : Option (List ℕ)) (header : Header) (old new : List ℕ) (result : Answered) → is_wrong device u.code ≡ false
     → file_of device u.name ≡ f → Replies (bmp5_packet device.address header (upload_reply tran u f)) old new result
-    → IsAnswered (answer_upload device tran u) device device header old new result
+    → IsGiven (answer_upload device tran u) device device header old new result
 upload-answered device tran u f header old new result w e r =
     rw w (record { leaves = refl; says = subst (λ (x : Option (List ℕ)). Replies (bmp5_packet device.address header (upload_reply tran u x)) old new result) (sym e) r })
 
@@ -49,7 +49,7 @@ pub download-answered : (device after : DeviceState) (tran : ℕ) (d : DownloadK
     → after ≡ record device { files = (download device.files d.name d.offset d.bytes).files }
     → download_reply tran (download device.files d.name d.offset d.bytes).resp d.offset ≡ m
     → Replies (bmp5_packet device.address header m) old new result
-    → IsAnswered (answer_download device tran d) device after header old new result
+    → IsGiven (answer_download device tran d) device after header old new result
 download-answered device after tran d m header old new result w e f r =
     rw w (record { leaves = e; says = subst (λ (x : Message). Replies (bmp5_packet device.address header x) old new result) (sym f) r })
 

@@ -5,7 +5,7 @@ ghost use Rattle.pb_bmp5.specs.Message.{message_of};
 ghost use Rattle.pb_station.specs.State.{Table, TablesStandFor};
 ghost use Rattle.pb_station.specs.Files.{part_max};
 ghost use Rattle.pb_station.specs.Answer.{FitsPacket, hear_bmp5, to_bmp5, answer_collect, answer_clock, answer_stats, answer_download, answer_upload};
-ghost use Rattle.pb_station.specs.Inside.Answered.{IsAnswered};
+ghost use Rattle.pb_station.specs.Inside.Answered.{IsGiven};
 ghost use Rattle.pb_station.specs.Inside.Commands.{collect_keys, download_keys, upload_keys};
 
 use crate::collect::{BODY_MAX, Command, collect};
@@ -41,7 +41,7 @@ pub(crate) fn answer_bmp5(
     requires { FitsHeader header.now }
     ensures answered { (all : List Table) → TablesStandFor tables.now all
         → let answer = hear_bmp5 (record { device = device.old; tables = all }) header.now message.now in
-        IsAnswered answer device.old device.new header.now out.old out.new result }
+        IsGiven answer device.old device.new header.now out.old out.new result }
     ensures within { FitsPacket result }
 {
     match pb_bmp5::read(message) {
@@ -59,7 +59,7 @@ fn answer_to_bmp5(
 ) -> Answered
     ensures answered { (all : List Table) → TablesStandFor tables.now all
         → let answer = to_bmp5 (record { device = device.old; tables = all }) (message_of message.now) in
-        IsAnswered answer device.old device.new header.now out.old out.new result }
+        IsGiven answer device.old device.new header.now out.old out.new result }
     ensures within { FitsPacket result }
 {
     match *message {
@@ -149,7 +149,7 @@ impl Device {
         ensures answered { (all : List Table) → TablesStandFor tables.now all
             → let answer = answer_collect (record { device = self.now; tables = all }) tran
             (collect_keys code asked.entry) in
-            IsAnswered answer self.now self.now header.now out.old out.new result }
+            IsGiven answer self.now self.now header.now out.old out.new result }
         ensures within { FitsPacket result }
     {
         if self.is_wrong(code) {
@@ -178,7 +178,7 @@ impl Device {
         out: &mut [u8; PACKET_MAX],
     ) -> Answered
         ensures answered { let answer = answer_clock self.old tran code adjust in
-            IsAnswered answer self.old self.new header.now out.old out.new result }
+            IsGiven answer self.old self.new header.now out.old out.new result }
         ensures within { FitsPacket result }
     {
         if self.is_wrong(code) {
@@ -208,7 +208,7 @@ impl Device {
         out: &mut [u8; PACKET_MAX],
     ) -> Answered
         ensures answered { let answer = answer_stats self.now tran code in
-            IsAnswered answer self.now self.now header.now out.old out.new result }
+            IsGiven answer self.now self.now header.now out.old out.new result }
         ensures within { FitsPacket result }
     {
         if self.is_wrong(code) {
@@ -240,7 +240,7 @@ impl Device {
         out: &mut [u8; PACKET_MAX],
     ) -> Answered
         ensures answered { let answer = answer_download self.old tran (download_keys code part.entry) in
-            IsAnswered answer self.old self.new header.now out.old out.new result }
+            IsGiven answer self.old self.new header.now out.old out.new result }
         ensures within { FitsPacket result }
     {
         if self.is_wrong(code) {
@@ -267,7 +267,7 @@ impl Device {
         out: &mut [u8; PACKET_MAX],
     ) -> Answered
         ensures answered { let answer = answer_upload self.now tran (upload_keys code wanted.entry) in
-            IsAnswered answer self.now self.now header.now out.old out.new result }
+            IsGiven answer self.now self.now header.now out.old out.new result }
         ensures within { FitsPacket result }
     {
         if self.is_wrong(code) {

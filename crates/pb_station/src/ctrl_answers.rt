@@ -3,7 +3,7 @@ ghost use Rattle.std.specs.Prelude.{◌≡◌};
 ghost use Rattle.pb_packet.specs.Packet.{FitsHeader};
 ghost use Rattle.pb_ctrl.specs.Message.{message_of};
 ghost use Rattle.pb_station.specs.Answer.{FitsPacket, hear_ctrl, to_ctrl, answer_get, answer_set, fault_code};
-ghost use Rattle.pb_station.specs.Inside.Answered.{IsAnswered};
+ghost use Rattle.pb_station.specs.Inside.Answered.{IsGiven};
 
 use crate::device::Device;
 use crate::reply::{PACKET_MAX, fail, reply_ctrl};
@@ -45,7 +45,7 @@ impl Device {
     ) -> Answered
         requires { FitsHeader header.now }
         ensures answered { let answer = hear_ctrl self.old header.now message.now in
-            IsAnswered answer self.old self.new header.now out.old out.new result }
+            IsGiven answer self.old self.new header.now out.old out.new result }
         ensures within { FitsPacket result }
     {
         match pb_ctrl::read(message) {
@@ -61,7 +61,7 @@ impl Device {
         out: &mut [u8; PACKET_MAX],
     ) -> Answered
         ensures answered { let answer = to_ctrl self.old (message_of message.now) in
-            IsAnswered answer self.old self.new header.now out.old out.new result }
+            IsGiven answer self.old self.new header.now out.old out.new result }
         ensures within { FitsPacket result }
     {
         match *message {
@@ -100,7 +100,7 @@ impl Device {
         out: &mut [u8; PACKET_MAX],
     ) -> Answered
         ensures answered { let answer = answer_get self.now tran code first in
-            IsAnswered answer self.now self.now header.now out.old out.new result }
+            IsGiven answer self.now self.now header.now out.old out.new result }
         ensures within { FitsPacket result }
     {
         if self.is_wrong(code) {
@@ -132,7 +132,7 @@ impl Device {
         out: &mut [u8; PACKET_MAX],
     ) -> Answered
         ensures answered { let answer = answer_set self.old tran code settings.now in
-            IsAnswered answer self.old self.new header.now out.old out.new result }
+            IsGiven answer self.old self.new header.now out.old out.new result }
         ensures within { FitsPacket result }
     {
         if self.is_wrong(code) {

@@ -16,30 +16,30 @@ use Rattle.pb_tool.specs.Closing.{Closes}
 use Rattle.pb_value.specs.TimeText.{time_text}
 
 -- `hello NODE router B metric B verify H`
-unfoldable pub hello_text : (node router metric verify : ℕ) → List ℕ
-hello_text node router metric verify = joined (
+unfoldable pub hello_line : (node router metric verify : ℕ) → List ℕ
+hello_line node router metric verify = joined (
     codes "hello " ∷ decimal node ∷ codes " router " ∷ decimal router ∷ codes " metric " ∷ decimal metric
     ∷ codes " verify " ∷ decimal verify ∷ codes "\n" ∷ [])
 
 -- `clock NODE TIME`
-unfoldable pub clock_text : ℕ → Nsec → List ℕ
-clock_text node time = joined (codes "clock " ∷ decimal node ∷ codes " " ∷ time_text time ∷ codes "\n" ∷ [])
+unfoldable pub clock_line : ℕ → Nsec → List ℕ
+clock_line node time = joined (codes "clock " ∷ decimal node ∷ codes " " ∷ time_text time ∷ codes "\n" ∷ [])
 
 -- `hello NODE CAUSE`
-unfoldable pub no_hello_text : ℕ → Cause → List ℕ
-no_hello_text node cause = joined (codes "hello " ∷ decimal node ∷ codes " " ∷ cause_text cause ∷ codes "\n" ∷ [])
+unfoldable pub no_hello_line : ℕ → Cause → List ℕ
+no_hello_line node cause = joined (codes "hello " ∷ decimal node ∷ codes " " ∷ cause_text cause ∷ codes "\n" ∷ [])
 
 -- `clock NODE CAUSE`
-unfoldable pub no_clock_text : ℕ → Cause → List ℕ
-no_clock_text node cause = joined (codes "clock " ∷ decimal node ∷ codes " " ∷ cause_text cause ∷ codes "\n" ∷ [])
+unfoldable pub no_clock_line : ℕ → Cause → List ℕ
+no_clock_line node cause = joined (codes "clock " ∷ decimal node ∷ codes " " ∷ cause_text cause ∷ codes "\n" ∷ [])
 
 unfoldable pub fault_text : ℕ → PingFault → List ℕ
 fault_text node fault.LinkFault = codes "pakbus: link fault\n"
-fault_text node (fault.Hello cause) = no_hello_text node cause
-fault_text node (fault.Clock cause router metric verify) = hello_text node router metric verify ++ no_clock_text node cause
+fault_text node (fault.Hello cause) = no_hello_line node cause
+fault_text node (fault.Clock cause router metric verify) = hello_line node router metric verify ++ no_clock_line node cause
 
 unfoldable pub ping_text : ℕ → Result Pinged PingFault → List ℕ
-ping_text node (Ok p) = hello_text node p.router p.metric p.verify ++ clock_text node p.time
+ping_text node (Ok p) = hello_line node p.router p.metric p.verify ++ clock_line node p.time
 ping_text node (Err f) = fault_text node f
 
 abbrev pub ping_status : Result Pinged PingFault → Status

@@ -6,7 +6,7 @@ ghost use Rattle.pb_io.specs.Page.{Adds, printing};
 ghost use Rattle.pb_io.specs.View.{LeavesOnly};
 ghost use Rattle.pb_tool.specs.Causes.{Counts};
 ghost use Rattle.pb_tool.specs.Ping.{Greets};
-ghost use Rattle.pb_tool.specs.PingText.{hello_text, clock_text, no_hello_text, no_clock_text, fault_text, ping_text, ping_status, RanPing};
+ghost use Rattle.pb_tool.specs.PingText.{clock_line, hello_line, no_hello_line, no_clock_line, fault_text, ping_text, ping_status, RanPing};
 ghost use Rattle.pb_value.specs.TimeText.{time_text};
 
 use crate::Status;
@@ -78,9 +78,9 @@ fn push_fault<O: Sink>(page: &mut Page, node: u16, fault: PingFault, out: &mut O
     }
 }
 
-#[tactic(auto, unfolding(crate::specs::PingText::hello_text))]
+#[tactic(auto, unfolding(crate::specs::PingText::hello_line))]
 fn push_hello<O: Sink>(page: &mut Page, node: u16, router: u8, metric: u8, verify: u16, out: &mut O)
-    ensures { Adds (hello_text node router metric verify) (printing O.Sink page.old out.old)
+    ensures { Adds (hello_line node router metric verify) (printing O.Sink page.old out.old)
         (printing O.Sink page.new out.new) }
 {
     page.put(
@@ -100,7 +100,7 @@ fn push_hello<O: Sink>(page: &mut Page, node: u16, router: u8, metric: u8, verif
 }
 
 fn push_clock<O: Sink>(page: &mut Page, node: u16, time: Nsec, out: &mut O)
-    ensures { Adds (clock_text node time) (printing O.Sink page.old out.old)
+    ensures { Adds (clock_line node time) (printing O.Sink page.old out.old)
         (printing O.Sink page.new out.new) }
 {
     page.put(
@@ -124,7 +124,7 @@ fn push_time<O: Sink>(page: &mut Page, time: Nsec, out: &mut O)
 }
 
 fn push_no_hello<O: Sink>(page: &mut Page, node: u16, cause: Cause, out: &mut O)
-    ensures { Adds (no_hello_text node cause) (printing O.Sink page.old out.old)
+    ensures { Adds (no_hello_line node cause) (printing O.Sink page.old out.old)
         (printing O.Sink page.new out.new) }
 {
     page.put(
@@ -140,7 +140,7 @@ fn push_no_hello<O: Sink>(page: &mut Page, node: u16, cause: Cause, out: &mut O)
 }
 
 fn push_no_clock<O: Sink>(page: &mut Page, node: u16, cause: Cause, out: &mut O)
-    ensures { Adds (no_clock_text node cause) (printing O.Sink page.old out.old)
+    ensures { Adds (no_clock_line node cause) (printing O.Sink page.old out.old)
         (printing O.Sink page.new out.new) }
 {
     page.put(

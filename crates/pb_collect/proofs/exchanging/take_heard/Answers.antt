@@ -5,7 +5,7 @@ use Rattle.pb_bmp5.specs.declared.message.Mode.{Mode}
 use Rattle.pb_bmp5.specs.CollectReply.{SeenFragment, SeenReply, CollectReads}
 use Rattle.pb_archive.specs.Entry.{advance_bytes_max}
 use Rattle.pb_collect.specs.Kept.{KeepsWhere, KnowsTrue}
-use Rattle.pb_collect.specs.Progress.{CanTakeAll, Fits, after_all, partial_bytes}
+use Rattle.pb_collect.specs.Progress.{CanTakeAll, Suits, after_all, partial_bytes}
 use Rattle.pb_collect.specs.Taking.{AreBrief}
 use Rattle.pb_collect.proofs.AnswerLemmas.{reply_brief}
 use Rattle.pb_collect.proofs.exchanging.take_heard.Goals as goal
@@ -36,7 +36,7 @@ take_answer-requires-clause-can g c =
     c.fragments.ensures ∙ ap (λ (r : SeenReply). r.fragments) (same_ok c.read_collect.result c.in-Ok.reply m.reply c.in-Ok.is (c.read_collect.ensures.only m.reply (subst (λ (l : List ℕ). CollectReads a.table.0 a.layout m.reply l) (sym c.message-message.ensures) m.reads))) in
     subst (λ (l : List SeenFragment). CanTakeAll p l) (sym fragments)
     (c.answers_can_be_taken.ensures.taken p a.table.0 m.reply (drop 8 c.args.listener.now.ear.content) (subst (λ (l : Layout). CollectReads a.table.0 l m.reply (drop 8 c.args.listener.now.ear.content)) of.to.layout m.reads)
-    (m.resp ∙ c.requires.served) (subst (λ (k : Mode). Fits k m.reply) of.to.mode m.fits))
+    (m.resp ∙ c.requires.served) (subst (λ (k : Mode). Suits k m.reply) of.to.mode m.fits))
 
 pub take_answer-requires-clause-brief : goal.take_answer-requires-clause-brief
 take_answer-requires-clause-brief g c =

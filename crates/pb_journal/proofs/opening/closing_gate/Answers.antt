@@ -1,5 +1,5 @@
 use Rattle.std.proofs.Common.{◌∙◌, ◌-◌, inr, refl, subst, arith}
-use Rattle.pb_journal.specs.Inside.{GateIs, Fits}
+use Rattle.pb_journal.specs.Inside.{GateIs, EndsWithin}
 use Rattle.pb_journal.specs.declared.walk.Gate.TheVariants.{Open}
 use Rattle.pb_journal.proofs.RunLemmas.{Peeks-none, Peeks-trans}
 use Rattle.pb_journal.proofs.WalkLemmas.{walked_start, walked_on, walked_to_end, walked_to_break}
@@ -32,7 +32,7 @@ pub loop-size-preserved : goal.loop-size-preserved
 loop-size-preserved g c =
     let walk = c.loop-size.invariant in
     let looked = c.in_ok-look.ensures in
-    let fits : Fits (Open c.in-Open.size) (c.args.len - c.loop-size.place) = subst (λ k. Fits k (c.args.len - c.loop-size.place)) c.in-Open.is looked.fits in
+    let fits : EndsWithin (Open c.in-Open.size) (c.args.len - c.loop-size.place) = subst (λ k. EndsWithin k (c.args.len - c.loop-size.place)) c.in-Open.is looked.fits in
     record {
       within = omega (arith, fits.1, walk.within);
       walked = λ f view.

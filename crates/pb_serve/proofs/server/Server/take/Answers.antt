@@ -1,7 +1,7 @@
 use Rattle.std.proofs.Common.{[], subst}
 use Rattle.pb_base.specs.World.{World}
 use Rattle.pb_station.specs.State.{State}
-use Rattle.pb_serve.specs.Inside.{Kept, IsGoing, Stands, Takes}
+use Rattle.pb_serve.specs.Inside.{Kept, IsGoing, Stands, IsHandled}
 use Rattle.pb_serve.proofs.ServeLemmas.{tick_takes, chunk_takes, no_bytes, some_bytes}
 use Rattle.pb_serve.proofs.TalkLemmas.{Talks-refl}
 use Rattle.pb_serve.proofs.server.Server.take.Goals as goal
@@ -20,5 +20,5 @@ returns-clause-takes g c =
     let old = (g.S.Disk.view c.args.site.now).link in
     let now = (g.S.Disk.view c.hear.new.site).link in
     let bytes = c.args.bytes.now in
-    subst (λ (x : Kept). IsGoing x → (first : State) (w : World) → Stands first x w [] → Takes first x.goal w bytes old now c.hear.result c.hear.new.self) c.self.view_is
+    subst (λ (x : Kept). IsGoing x → (first : State) (w : World) → Stands first x w [] → IsHandled first x.goal w bytes old now c.hear.result c.hear.new.self) c.self.view_is
     (λ going first w s. chunk_takes first k c.hear.new.self w bytes old now c.hear.result (some_bytes bytes c.is_empty.result c.is_empty.ensures c.if-is_empty.false) c.requires.few going c.hear.ensures.leads s) c.requires.going
