@@ -1,6 +1,7 @@
 -- Steps of the calls, which no promise names.
 use Rattle.std.specs.Prelude.{◌≡◌, ◌≢◌, ◌⊎◌, ℕ, zero, suc, ◌^◌, ◌<◌, false, List, [], ◌∷◌, ◌++◌, map}
 use Rattle.pb_station.specs.State.{KeptStation, Table, StandsFor}
+use Rattle.pb_script.specs.declared.draft.Draft.TheInside.{Inside}
 use Rattle.pb_script.specs.declared.table.ScriptTable.{ScriptTable}
 use Rattle.pb_script.specs.declared.table.Station.{Station}
 use Rattle.pb_script.specs.Script.{Script, IsAddress, CanDeclare, CanStore, with_table, with_store}
@@ -10,6 +11,17 @@ use Rattle.pb_script.specs.declared.table.Shape.{Shape}
 use Rattle.pb_tdf.specs.Definition.{word, field_bytes}
 use Rattle.pb_base.specs.Time.{time_bytes}
 use Rattle.std.specs.List.{flat_map}
+
+-- what is seen of the fields of a draft
+abbrev pub draft_view : Inside → Script
+draft_view d = record {
+  me = d.me;
+  name = d.station.name;
+  addr = d.station.addr;
+  code = d.station.code;
+  tables = d.tables.items;
+  storing = d.storing;
+}
 
 -- the script of a station without tables
 abbrev pub begun : ℕ → Station → Script

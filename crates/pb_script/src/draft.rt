@@ -34,28 +34,14 @@ pub(crate) struct Draft {
 
 impl Model for Draft {
     ghost use Rattle.std.specs.Prelude.{◌≡◌};
+    ghost use Rattle.pb_script.specs.Inside.{draft_view};
     ghost use Rattle.pb_script.specs.Script.{Script, IsScript, all_ring_bytes};
 
     ghost Value = { Script };
 
-    ghost view = { λ d. record {
-      me = d.me;
-      name = d.station.name;
-      addr = d.station.addr;
-      code = d.station.code;
-      tables = d.tables.items;
-      storing = d.storing;
-    } };
+    ghost view = { draft_view };
 
-    ghost invariant = { λ d. IsScript (record {
-      me = d.me;
-      name = d.station.name;
-      addr = d.station.addr;
-      code = d.station.code;
-      tables = d.tables.items;
-      storing = d.storing;
-    })
-        × (d.used ≡ all_ring_bytes d.tables.items) };
+    ghost invariant = { λ d. IsScript (draft_view d) × (d.used ≡ all_ring_bytes d.tables.items) };
 }
 
 // The place of the table of this name.

@@ -9,6 +9,7 @@ use Rattle.pb_io.specs.Site.{GrowsBy}
 use Rattle.pb_io.specs.View.{Link}
 use Rattle.pb_station.specs.State as station
 use Rattle.pb_serve.specs.Serving.{Moment, Serving, Ends}
+use Rattle.pb_serve.specs.declared.server.Server.TheInside.{Inside}
 use Rattle.pb_serve.specs.declared.server.End.{End}
 use Rattle.pb_serve.specs.declared.server.End.TheVariants.{LinkFault}
 use Rattle.pb_serve.specs.declared.server.TheConstants.{FLOOD, IDLE}
@@ -22,6 +23,11 @@ pub record Kept : Type 0 where
   pub good : ℕ
   pub since : ℕ
   pub quiets : ℕ
+
+-- what is seen of its fields
+abbrev pub server_view : Inside → Kept
+server_view s =
+    record { ear = s.ear; station = s.station; goal = s.goal; good = s.good; since = s.since; quiets = s.quiets }
 
 pub record IsKept (k : Kept) : Type 0 where
   pub few : k.goal ≤ GOAL_MAX

@@ -56,27 +56,13 @@ pub struct Server {
 }
 
 impl Model for Server {
-    ghost use Rattle.pb_serve.specs.Inside.{Kept, IsKept};
+    ghost use Rattle.pb_serve.specs.Inside.{Kept, IsKept, server_view};
 
     ghost Value = { Kept };
 
-    ghost view = { λ s. record {
-      ear = s.ear;
-      station = s.station;
-      goal = s.goal;
-      good = s.good;
-      since = s.since;
-      quiets = s.quiets;
-    } };
+    ghost view = { server_view };
 
-    ghost invariant = { λ s. IsKept (record {
-      ear = s.ear;
-      station = s.station;
-      goal = s.goal;
-      good = s.good;
-      since = s.since;
-      quiets = s.quiets;
-    }) };
+    ghost invariant = { λ s. IsKept (server_view s) };
 }
 
 impl Server {
