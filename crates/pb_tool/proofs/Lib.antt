@@ -4,11 +4,9 @@ mod ClosingLemmas
 mod CollectLemmas
 mod DefsLemmas
 mod ExportLemmas
-mod LineLemmas
 mod PingLemmas
 mod PrintLemmas
 mod RequestLemmas
-mod SpelledLemmas
 mod StreamLemmas
 mod TakesLemmas
 mod WordLemmas

@@ -7,10 +7,7 @@ pub mod Defs
 pub mod Export
 pub mod Init
 pub mod Input
-pub mod Inside
-pub mod MessageText
 pub mod Order
-pub mod PacketText
 pub mod Ping
 pub mod PingText
 pub mod Ran

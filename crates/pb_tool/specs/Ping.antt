@@ -1,6 +1,6 @@
 -- What the answers of `ping` mean.
 pub mod Requests
-use Rattle.std.specs.Prelude.{◌≡◌, ◌≢◌, ◌⊎◌, ℕ, zero, suc, List, ◌++◌, Option, Some, Result, Ok, Err}
+use Rattle.std.specs.Prelude.{◌≡◌, ◌≢◌, ◌⊎◌, ℕ, zero, suc, List, ◌++◌, Some, Result, Ok, Err}
 use Rattle.pb_base.specs.World.{World, quiet_ticks, sent}
 use Rattle.pb_base.specs.declared.nsec.Nsec.{Nsec}
 use Rattle.pb_io.specs.Site.{GrowsBy}

@@ -7,7 +7,8 @@ use Rattle.pb_io.specs.Sink.{AppendsPrefix}
 use Rattle.pb_frame.specs.Framing.{verdicts}
 use Rattle.pb_tool.specs.declared.status.Status.{Status}
 use Rattle.pb_tool.specs.declared.status.Status.TheVariants.{Done, ReadFault, WriteFault, Format}
-use Rattle.pb_tool.specs.ShowText.{lines, show_limit, written_of, is_refused, is_past_limit, read_fault_line}
+use Rattle.pb_show.specs.LineText.{lines}
+use Rattle.pb_tool.specs.ShowText.{show_limit, written_of, is_refused, is_past_limit, read_fault_line}
 
 -- All that `show` writes of the input was written, the status says whether it is refused, and it was read to its end
 -- or past its limit.

@@ -13,10 +13,10 @@ ghost use Rattle.pb_tool.specs.Check.{check_text, names_text, table_text, number
 use crate::Status;
 use crate::closing::finish;
 use crate::refusal::{push_refused, status_of_refusal};
-use crate::text::push_escaped;
 use pb_archive::{Archive, ArchiveFault, TableView};
 use pb_base::TableId;
 use pb_io::{Page, Part, Sink, Site};
+use pb_show::push_escaped;
 use std::alloc::Global;
 
 /// Opens the archive, and prints a line for each of its tables.

@@ -16,10 +16,10 @@ use crate::Status;
 use crate::check::push_names;
 use crate::closing::finish;
 use crate::refusal::refuse;
-use crate::text::push_hex;
 use pb_archive::{Archive, TableView};
 use pb_collect::{Collector, End, Outcome, RoundResult};
 use pb_io::{Page, Part, Sink, Site};
+use pb_show::push_hex;
 use pb_trans::Limits;
 use std::alloc::Global;
 

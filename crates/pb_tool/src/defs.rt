@@ -5,9 +5,7 @@ ghost use Rattle.pb_collect.specs.Adding.{Adds as DefsAdds};
 ghost use Rattle.pb_io.specs.Outside.{output_view};
 ghost use Rattle.pb_io.specs.Page.{Adds, printing};
 ghost use Rattle.pb_tool.specs.Causes.{Counts};
-ghost use Rattle.pb_tool.specs.Closing.{Closes};
 ghost use Rattle.pb_tool.specs.Defs.{RanDefs, RanReading, broken_line, fault_line, has_starred, failed_text, is_starred, line_text, redefined_text, report_text, rest_text, result_status, table_text};
-ghost use Rattle.pb_tool.specs.Refusal.{refusal_status, refusal_text};
 
 use crate::Status;
 use crate::cause::push_cause;
@@ -15,10 +13,10 @@ use crate::check::name_of;
 use crate::closing::finish;
 use crate::collect::{QUIETS, SENDS};
 use crate::refusal::refuse;
-use crate::text::{push_escaped, push_hex};
 use pb_archive::Archive;
 use pb_collect::{Cause, Collector, DefsFault, DefsLine, DefsReport, DefsWhat};
 use pb_io::{Page, Part, Sink, Site};
+use pb_show::{push_escaped, push_hex};
 use pb_trans::Limits;
 use std::alloc::Global;
 

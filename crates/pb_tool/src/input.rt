@@ -1,5 +1,5 @@
 //! An input that is read whole.
-ghost use Rattle.std.specs.Prelude.{◌≡◌, ◌≤◌, IfOk, IfErr};
+ghost use Rattle.std.specs.Prelude.{◌≡◌, IfOk, IfErr};
 ghost use Rattle.pb_io.specs.Page.{Adds, printing};
 ghost use Rattle.pb_tool.specs.Input.{ReadsWhole, InputRefuses, CountsReads, byte_text, input_fault_text, input_status, line_text};
 

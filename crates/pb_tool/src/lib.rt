@@ -15,7 +15,6 @@ mod refusal;
 mod serve;
 mod show;
 mod status;
-mod text;
 mod words;
 
 pub use commands::run;

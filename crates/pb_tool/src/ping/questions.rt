@@ -1,5 +1,5 @@
 //! What `ping` asks: a hello, and the time.
-ghost use Rattle.std.specs.Prelude.{◌≡◌, ◌≤◌, ◌<◌, length, take, MatchOption};
+ghost use Rattle.std.specs.Prelude.{◌<◌, MatchOption};
 ghost use Rattle.pb_tool.specs.Ping.Requests.{IsGreeting, IsReading};
 
 use crate::ping::request::{Request, write_request};

@@ -1,6 +1,6 @@
 use Rattle.std.proofs.Common.{Ok, Err, sym, subst}
 use Rattle.std.specs.Option.{ForSome}
-use Rattle.pb_archive.specs.Opened.{Register, register_of}
+use Rattle.pb_archive.specs.Opened.{Register}
 use Rattle.pb_collect.proofs.AddingLemmas.{adds_opened, adds_trans, all_grow_on}
 use Rattle.pb_tool.specs.Check.{IsKeptOf}
 use Rattle.pb_tool.specs.Defs.{answer_text}

@@ -1,0 +1,9 @@
+use Rattle.std.proofs.Common.{append_assoc, refl}
+use Rattle.std.proofs.lemmas.List.{append-nil}
+use Rattle.pb_io.proofs.PageLemmas.{Adds-two}
+use Rattle.pb_show.specs.MessageText.{named_text}
+use Rattle.pb_show.proofs.message.push_named.Goals as goal
+
+pub returns : goal.returns
+unfolding named_text
+returns g c = Adds-two _ _ _ _ _ _ (simp (c.from.ensures, append_assoc, append-nil) refl) c.put.ensures c.push_keys.ensures

@@ -1,0 +1,4 @@
+pub mod Inside
+pub mod LineText
+pub mod MessageText
+pub mod PacketText
