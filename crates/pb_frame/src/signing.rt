@@ -31,6 +31,17 @@ impl Signer {
         }
     }
 
+    /// The signature after these bytes more.
+    pub fn steps(self, bytes: &[u8]) -> Signer
+        ensures { 256 * result.high + result.low ≡ sig bytes.now (256 * self.high + self.low) }
+    {
+        let mut sum = self;
+        for byte in bytes {
+            sum = sum.step(*byte);
+        }
+        sum
+    }
+
     pub fn get(self) -> u16
         ensures { result ≡ 256 * self.high + self.low }
     {
@@ -49,11 +60,7 @@ impl Signer {
 pub fn signature(bytes: &[u8], start: u16) -> u16
     ensures { result ≡ sig bytes.now start }
 {
-    let mut signer = Signer::new(start);
-    for byte in bytes {
-        signer = signer.step(*byte);
-    }
-    signer.get()
+    Signer::new(start).steps(bytes).get()
 }
 
 /// The two bytes that bring a signature to 0 (PakBus).

@@ -1,6 +1,6 @@
-use Rattle.std.proofs.Common.{◌≡◌, ℕ, ◌≤◌, length, List, inl, inr, refl, arith}
+use Rattle.std.proofs.Common.{ℕ, ◌≤◌, length, inl, inr, arith}
 use Rattle.pb_frame.specs.Signature.{start, sig, null}
-use Rattle.pb_frame.specs.Framing.{IsContentSize, frame_max, frame}
+use Rattle.pb_frame.specs.Framing.{IsContentSize}
 use Rattle.pb_frame.proofs.QuotedLemmas.{length-frame, length-quoted}
 use Rattle.pb_frame.proofs.laws.law_limits.Goals as goal
 
