@@ -11,6 +11,9 @@ pub const QUOTED_QUOTE: u8 = 0xDC;
 /// What stands behind the quote byte for the flag byte (PakBus).
 pub const QUOTED_FLAG: u8 = 0xDD;
 
+/// How far what stands behind the quote byte lies above the byte for which it stands.
+pub const QUOTED_BY: u8 = QUOTED_FLAG - FLAG;
+
 /// What a frame's signature starts with (PakBus).
 pub const START: u16 = 0xAAAA;
 

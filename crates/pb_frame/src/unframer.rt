@@ -4,7 +4,7 @@ ghost use Rattle.pb_frame.specs.Framing.{body_max, flag, IsPlain, IsContentSize,
 ghost use Rattle.pb_frame.specs.Hearing.{StandsFor, Follows, shown, IsAnswered, HoldsContent, HasNoFlag, EndsRun, hearing};
 ghost use Rattle.pb_frame.specs.Turn.{kept, ended, gone_on, begun, unquoted_by, passed, turned};
 
-use crate::limits::{BODY_MAX, FLAG, QUOTE, QUOTED_FLAG, QUOTED_QUOTE, START};
+use crate::limits::{BODY_MAX, FLAG, QUOTE, QUOTED_BY, QUOTED_FLAG, QUOTED_QUOTE, START};
 use crate::run::copy_plain;
 use crate::signing::Signer;
 use crate::state::State;
@@ -173,11 +173,9 @@ impl Unframer {
         ensures after { self.new ≡ (unquoted_by self.old byte).after }
         ensures heard { result ≡ (unquoted_by self.old byte).heard }
     {
-        if byte == QUOTED_QUOTE {
-            return self.keep(QUOTE);
-        }
-        if byte == QUOTED_FLAG {
-            return self.keep(FLAG);
+        // One question for both, so that a processor needn't guess which of them comes.
+        if matches!(byte, QUOTED_FLAG | QUOTED_QUOTE) {
+            return self.keep(byte - QUOTED_BY);
         }
         self.state = if byte == FLAG {
             State::Between

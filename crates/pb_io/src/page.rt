@@ -6,7 +6,7 @@ use crate::{Failed, Sink, put_all};
 use std::marker::Model;
 
 /// How many bytes a page holds.
-const PAGE: usize = 8192;
+const PAGE: usize = 65_536;
 
 /// A part of a text.
 #[derive(Clone, Copy, Debug)]
@@ -36,7 +36,7 @@ impl Model for Page {
 
     ghost view = { λ p. record { text = take p.len p.bytes; failed = p.has_failed } };
 
-    ghost invariant = { λ p. p.len ≤ 8192 };
+    ghost invariant = { λ p. p.len ≤ 65536 };
 }
 
 impl Page {
@@ -51,6 +51,7 @@ impl Page {
     }
 
     /// Adds the bytes as they are, of any length.
+    #[inline]
     pub fn push<O: Sink>(&mut self, text: &[u8], out: &mut O)
         ensures { Adds text.now (printing O.Sink self.old out.old) (printing O.Sink self.new out.new) }
     {
@@ -106,6 +107,7 @@ impl Page {
     }
 
     // Adds a text for which this page has no room.
+    #[inline(never)]
     fn push_over<O: Sink>(&mut self, text: &[u8], out: &mut O)
         ensures { Adds text.now (printing O.Sink self.old out.old) (printing O.Sink self.new out.new) }
     {
@@ -140,7 +142,7 @@ impl Page {
 
     // Adds a text for which there is room.
     fn gather(&mut self, text: &[u8])
-        requires { length self.old.text + length text.now ≤ 8192 }
+        requires { length self.old.text + length text.now ≤ 65536 }
         ensures { self.new ≡ record self.old { text = self.old.text ++ text.now } }
     {
         let end = self.len + text.len();

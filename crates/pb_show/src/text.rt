@@ -7,8 +7,11 @@ ghost use Rattle.pb_value.specs.Hex.{hex};
 use pb_io::{Page, Sink};
 use pb_value::{ESCAPED_MAX, escape_into, hex_digits_into};
 
-/// How many bytes are written in hexadecimal, or escaped, at once.
-const STEP: usize = 64;
+/// How many bytes are written in hexadecimal at once.
+const STEP: usize = 128;
+
+/// How many bytes of a name are escaped at once. Most names are short, and room for them is cleared each time.
+const NAME_STEP: usize = 16;
 
 /// Adds bytes in hexadecimal, two upper-case digits each.
 pub fn push_hex<O: Sink>(page: &mut Page, bytes: &[u8], out: &mut O)
@@ -39,18 +42,18 @@ pub fn push_escaped<O: Sink>(page: &mut Page, name: &[u8], out: &mut O)
 {
     let mut left = name;
     while !left.is_empty() {
-        let (chunk, rest) = left.split_at(left.len().min(STEP));
+        let (chunk, rest) = left.split_at(left.len().min(NAME_STEP));
         push_characters(page, chunk, out);
         left = rest;
     }
 }
 
 fn push_characters<O: Sink>(page: &mut Page, name: &[u8], out: &mut O)
-    requires { length name.now ≤ STEP }
+    requires { length name.now ≤ NAME_STEP }
     ensures { Adds (name_text name.now) (printing O.Sink page.old out.old)
         (printing O.Sink page.new out.new) }
 {
-    let mut characters = [0; ESCAPED_MAX * STEP];
+    let mut characters = [0; ESCAPED_MAX * NAME_STEP];
     let len = escape_into(name, &mut characters).unwrap();
     page.push(&characters[..len], out);
 }

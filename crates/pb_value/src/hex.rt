@@ -9,6 +9,9 @@ use pb_base::Full;
 /// The most bytes of a value that is written in hexadecimal.
 const BYTES_MAX: usize = 8;
 
+/// How many characters lie between `9` and `A`.
+const AFTER_NINE: u8 = b'A' - b'9' - 1;
+
 /// The digits of at most 8 bytes.
 pub fn hex_into(bytes: &[u8], out: &mut [u8]) -> Result<usize, Full>
     requires { length bytes.now ≤ 8 }
@@ -38,5 +41,6 @@ pub fn digit(n: u8) -> u8
     requires { n < 16 }
     ensures { result ≡ digit_of n }
 {
-    if n < 10 { b'0' + n } else { b'A' - 10 + n }
+    // One sum with a choice within it makes better code than a choice between two sums.
+    b'0' + n + if n < 10 { 0 } else { AFTER_NINE }
 }

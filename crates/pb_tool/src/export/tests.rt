@@ -427,22 +427,22 @@ fn ends_at_a_failed_write(rt: HostRuntime) -> Result<(), Fail> {
     let alloc = rt.alloc();
     let file = long_file(alloc)?;
     let text = long_text(alloc)?;
-    // Lines are written by pages of 8,192 bytes, 30 of them.
+    // Lines are written by pages of 65,536 bytes, 4 of them.
     let mut least = 0;
-    for write in 0..30 {
+    for write in 0..4 {
         let printed = before_failed_write(alloc, &file, &text, write)?.ok_or("a prefix")?;
         assert!(rt; least <= printed);
         least = printed.saturating_add(1);
     }
     let mut site = site_over(alloc, &file, &[])?;
-    assert!(rt; prints(alloc, &mut site, &[30], Status::Done, &text)?);
+    assert!(rt; prints(alloc, &mut site, &[4], Status::Done, &text)?);
     // A disk fault whose closing line can't be written.
     let mut site = site_over(alloc, &file, &[7])?;
     assert!(rt;
         prints(
             alloc,
             &mut site,
-            &[22],
+            &[3],
             Status::WriteFault,
             text.get(..178_904).ok_or("a prefix")?
         )?
