@@ -3,6 +3,7 @@ pub mod AnswerLemmas
 pub mod AnsweredLemmas
 pub mod AskedLemmas
 pub mod ChangingLemmas
+pub mod CommandLemmas
 pub mod CompleteLemmas
 pub mod CompleteRoundLemmas
 pub mod DefiningLemmas

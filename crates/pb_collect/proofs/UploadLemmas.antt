@@ -1,43 +1,18 @@
--- Upload commands: their frames, from what each writer wrote, and what may answer them.
-use Rattle.std.proofs.Common.{◌≡◌, inr, ℕ, ◌≤◌, ◌+◌, List, [], ◌++◌, Result, Ok, IfOk, length, take, drop, refl, sym, ap, subst, ◌∙◌, arith, rules, length-append}
-use Rattle.std.proofs.lemmas.List.{take_at}
-use Rattle.pb_base.specs.declared.refusal.Full.{Full as NoRoom}
-use Rattle.pb_base.specs.Put.{IsWritten}
+-- Upload commands: what their frames ask for, and what may answer them.
+use Rattle.std.proofs.Common.{◌≡◌, inr, ℕ, ◌≤◌, ◌+◌, List, [], length, refl, sym, ap, subst, ◌∙◌, arith, rules, length-append}
 use Rattle.pb_base.specs.Request.{Request}
-use Rattle.pb_frame.specs.Framing.{frame, IsContentSize}
-use Rattle.pb_packet.specs.Packet.{full, packet_bytes, IsAddress, PacketBytes}
+use Rattle.pb_frame.specs.Framing.{IsContentSize}
+use Rattle.pb_packet.specs.Packet.{full, IsAddress, PacketBytes}
 use Rattle.pb_packet.specs.declared.headers.Header.{Header}
 use Rattle.pb_bmp5.specs.Message.{Collect, CollectKeys, Upload, UploadKeys, UploadReply, MessageReads, Valid, message_bytes}
 use Rattle.pb_truth.specs.Asked.{AsksFor, IsIn}
 use Rattle.pb_truth.proofs.WrittenLemmas.{its_content, OnePacket, OneMessage}
 use Rattle.pb_collect.specs.Command.{content_to, frame_to, header_to}
 use Rattle.pb_collect.specs.Upload.{MeansUpload, file_name, upload_frame, upload_keys, upload_message}
-use Rattle.pb_collect.specs.declared.command.Contact.{Contact}
 use Rattle.pb_collect.specs.declared.upload.FileReply.{FileReply}
 use Rattle.pb_collect.specs.declared.upload.FileReply.TheVariants.{Data, Refused}
 use Rattle.pb_collect.specs.declared.upload.UploadCommand.{UploadCommand}
-
-at_ok : {T E : Type 0} (r : Result T E) (x : T) (P : T → Type 0) → r ≡ Ok x → IfOk r P → P x
-at_ok r x P is h = subst (λ (s : Result _ _). IfOk s P) is h
-
--- what was written stands at the front
-written_front : (bytes old new : List ℕ) (n : ℕ) → IsWritten bytes old new n → take n new ≡ bytes
-written_front bytes old new n w = ap (take n) w.parts ∙ take_at bytes (drop n old) n (sym w.len)
-
--- ---- the frame of a command
-
-pub framed : (c : Contact) (message : List ℕ) (header : Header) (old content : List ℕ) (n : ℕ) (room out : List ℕ) (m : ℕ)
-    (r : Result ℕ NoRoom) (s : Result ℕ NoRoom) → header ≡ header_to c
-    → IfOk r (IsWritten (packet_bytes (full header message)) old content) → r ≡ Ok n
-    → IfOk s (λ k. k ≡ length (frame (take n content))) → IfOk s (λ k. out ≡ frame (take n content) ++ drop k room) → s ≡ Ok m
-    → take m out ≡ frame_to c message
-unfolding frame_to
-framed c message header old content n room out m r s is_header written is_n size framed_out is_m =
-    let packet = written_front _ old content n (at_ok r n _ is_n written) in
-    let len = at_ok s m (λ k. k ≡ length (frame (take n content))) is_m size in
-    let parts = at_ok s m (λ k. out ≡ frame (take n content) ++ drop k room) is_m framed_out in
-    ap (take m) parts ∙ take_at (frame (take n content)) (drop m room) m (sym len)
-    ∙ ap frame (packet ∙ ap (λ (h : Header). packet_bytes (full h message)) is_header)
+use Rattle.pb_collect.proofs.CommandLemmas.{content_packet}
 
 -- ---- the message
 
@@ -55,19 +30,6 @@ short tran code offset = omega arith
 content_size : (c : UploadCommand) → IsContentSize (length (content_to c.contact (upload_message c)))
 content_size c = inr (omega (arith, short c.tran c.contact.code c.offset), omega (arith, short c.tran c.contact.code c.offset))
 
-content_packet : (c : UploadCommand) → IsAddress c.contact.me → IsAddress c.contact.via → IsAddress c.contact.station
-    → PacketBytes (full (header_to c.contact) (upload_message c)) (content_to c.contact (upload_message c))
-content_packet c me via station = record {
-  bytes = refl;
-  valid = record {
-    phys = record { dst = via; more = omega arith; priority = omega arith; src = me };
-    proto = omega arith;
-    dst = station;
-    hops = omega arith;
-    src = me;
-  };
-}
-
 other_message : (tran : ℕ) (keys : UploadKeys) (t : ℕ) (k : CollectKeys) → Collect t k ≡ Upload tran keys → ⊥
 other_message tran keys t k is = cc
 
@@ -83,7 +45,8 @@ pub no_records : OnePacket → OneMessage → (c : UploadCommand) → IsAddress 
     → MessageReads (Upload c.tran (upload_keys c)) (upload_message c) → (r : Request) → IsIn r (upload_frame c) → ⊥
 unfolding frame_to
 no_records one_packet one_message c me via station reads r is =
-    none_in one_packet one_message (content_to c.contact (upload_message c)) (upload_message c) (header_to c.contact) c.tran (upload_keys c) r (content_packet c me via station) reads
+    none_in one_packet one_message (content_to c.contact (upload_message c)) (upload_message c) (header_to c.contact) c.tran (upload_keys c) r
+    (content_packet c.contact (upload_message c) me via station) reads
     (subst (λ x. AsksFor x r) (its_content (content_to c.contact (upload_message c)) is.0 (content_size c) is.1) is.2)
 
 -- ---- replies

@@ -1,5 +1,5 @@
 -- What comes of the tables that a station's file defines.
-use Rattle.std.specs.Prelude.{◌≡◌, ◌≢◌, ◌⊎◌, ℕ, zero, suc, ◌<◌, List, [], ◌∷◌, ◌++◌, length, slice_get, None, Some, Err, true, false}
+use Rattle.std.specs.Prelude.{◌≡◌, ◌≢◌, ◌⊎◌, ℕ, zero, suc, ◌<◌, List, [], ◌∷◌, ◌++◌, length, slice_get, None, Some, Result, Ok, Err, true, false}
 use Rattle.std.specs.List.{AllByRecursion}
 use Rattle.pb_io.specs.View.{View}
 use Rattle.pb_tdf.specs.View.{TableView, no_layout}
@@ -89,3 +89,8 @@ abbrev pub DiskLeaves : DefsFault → OpenArchive → View → View → Type 0
 DiskLeaves DiskFault o old new = FaultLeaves DiskFault o old new
 DiskLeaves LinkFault o old new = ⊥
 DiskLeaves Memory o old new = FaultLeaves Memory o old new
+
+-- How they end: without a fault the archive goes on.
+abbrev pub DiskEnds : {A : Type 0} → Result A DefsFault → OpenArchive → View → View → Type 0
+DiskEnds (Ok x) o old new = Goes o old new
+DiskEnds (Err fault) o old new = DiskLeaves fault o old new

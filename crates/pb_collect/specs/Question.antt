@@ -2,30 +2,22 @@
 use Rattle.std.specs.Prelude.{◌≡◌, ℕ, List, []}
 use Rattle.pb_base.specs.Request.{Request}
 use Rattle.pb_frame.specs.Framing.{frame}
-use Rattle.pb_packet.specs.Packet.{full, packet_bytes}
-use Rattle.pb_packet.specs.declared.headers.LinkState.TheVariants.{Ready}
-use Rattle.pb_packet.specs.declared.headers.Header.{Header}
 use Rattle.pb_packet.specs.declared.headers.TheConstants.{PROTO_BMP5}
 use Rattle.pb_bmp5.specs.CollectReply.{SeenReply, CollectReads}
 use Rattle.pb_bmp5.specs.Message.{Collect, CollectKeys, message_bytes}
 use Rattle.pb_ask.specs.Wanted.{Wanted}
 use Rattle.pb_truth.specs.Asked.{request_of, IsIn}
+use Rattle.pb_collect.specs.Command.{content_to, header_to}
 use Rattle.pb_collect.specs.Progress.{Suits}
 use Rattle.pb_collect.specs.declared.answer.Said.{Said}
+use Rattle.pb_collect.specs.declared.command.Contact.{Contact}
 use Rattle.pb_collect.specs.declared.question.CollectCommand.{CollectCommand}
 
 -- ---- what is sent
 
--- a BMP5 command, after which more is expected; it goes to the neighbour
-abbrev pub command_header : CollectCommand → Header
-command_header c =
-    record {
-      phys = record { state = Ready; dst = c.via; more = 1; priority = 1; src = c.me };
-      proto = PROTO_BMP5;
-      dst = c.station;
-      hops = 0;
-      src = c.me;
-    }
+-- how the command's station is asked
+abbrev pub contact_in : CollectCommand → Contact
+contact_in c = record { me = c.me; via = c.via; station = c.station; code = c.code }
 
 -- all fields are asked for
 abbrev pub command_keys : CollectCommand → CollectKeys
@@ -35,14 +27,14 @@ abbrev pub command_message : CollectCommand → List ℕ
 command_message c = message_bytes (Collect c.tran (command_keys c))
 
 abbrev pub command_content : CollectCommand → List ℕ
-command_content c = packet_bytes (full (command_header c) (command_message c))
+command_content c = content_to (contact_in c) (command_message c)
 
 unfoldable pub command_frame : CollectCommand → List ℕ
 command_frame c = frame (command_content c)
 
 -- the request that the command is
 abbrev pub command_request : CollectCommand → Request
-command_request c = request_of (command_header c) c.tran (command_keys c)
+command_request c = request_of (header_to (contact_in c)) c.tran (command_keys c)
 
 -- the command's frame asks for nothing else
 abbrev pub AsksOnce : CollectCommand → Type 0

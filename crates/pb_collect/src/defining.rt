@@ -1,11 +1,10 @@
 //! The tables that a station's file defines: each is compared with the archive's, and added where it is new.
-ghost use Rattle.std.specs.Prelude.{◌≡◌, ◌≢◌, ℕ, List, [], ◌∷◌, ◌++◌, ◌<◌, ◌≤◌, false, true, length, slice_get, IfOk, IfErr, OnOk, OnErr, MatchOption, Some};
+ghost use Rattle.std.specs.Prelude.{◌≡◌, ℕ, List, [], ◌∷◌, ◌++◌, ◌<◌, false, true, length, slice_get, IfOk, IfErr, OnOk, OnErr, MatchOption, Some};
 ghost use Rattle.std.specs.List.{AllByRecursion};
-ghost use Rattle.pb_tdf.specs.View.{IsDefined};
 ghost use Rattle.pb_archive.specs.Opened.{HasLayout, IsOpen, IsOther, register_of};
 ghost use Rattle.pb_archive.specs.Refusals.{NeedsOpening};
 ghost use Rattle.pb_archive.specs.declared.held.Held.{Held};
-ghost use Rattle.pb_collect.specs.Defining.{DiskKeeps, DiskLeaves, IsAt, TableCame, TablesCame, Treats};
+ghost use Rattle.pb_collect.specs.Defining.{DiskEnds, DiskKeeps, DiskLeaves, IsAt, TableCame, TablesCame, Treats};
 ghost use Rattle.pb_collect.specs.Exchanges.{Goes};
 ghost use Rattle.pb_collect.specs.declared.report.DefsLine.{DefsLine as Line};
 
@@ -59,9 +58,7 @@ fn compare<D: Disk>(
         → IsAt (register_of archive.old) station number id.0 held → HasLayout t → t.signature ≡ signature
         → Treats station number t what (register_of archive.old) (register_of archive.new)) }
     ensures stays { OnErr result (register_of archive.new ≡ register_of archive.old) }
-    ensures goes { OnOk result (Goes archive.new (D.view disk.old) (D.view disk.new)) }
-    ensures fault { IfErr result (λ fault. DiskLeaves fault archive.new (D.view disk.old)
-        (D.view disk.new)) }
+    ensures ends { DiskEnds result archive.new (D.view disk.old) (D.view disk.new) }
     ensures keeps { DiskKeeps archive.new (D.view disk.old) (D.view disk.new) }
 {
     let state = state_of(archive, id);
@@ -95,9 +92,7 @@ fn add<D: Disk>(
     ensures treats { IfOk result (λ what. Treats station number.0 table.now what (register_of archive.old)
         (register_of archive.new)) }
     ensures stays { OnErr result (register_of archive.new ≡ register_of archive.old) }
-    ensures goes { OnOk result (Goes archive.new (D.view disk.old) (D.view disk.new)) }
-    ensures fault { IfErr result (λ fault. DiskLeaves fault archive.new (D.view disk.old)
-        (D.view disk.new)) }
+    ensures ends { DiskEnds result archive.new (D.view disk.old) (D.view disk.new) }
     ensures keeps { DiskKeeps archive.new (D.view disk.old) (D.view disk.new) }
 {
     if usize::from(archive.tables()) >= TABLES_MAX {
@@ -127,9 +122,7 @@ fn treat<D: Disk>(
     ensures treats { IfOk result (λ what. Treats station number.0 table.now what (register_of archive.old)
         (register_of archive.new)) }
     ensures stays { OnErr result (register_of archive.new ≡ register_of archive.old) }
-    ensures goes { OnOk result (Goes archive.new (D.view disk.old) (D.view disk.new)) }
-    ensures fault { IfErr result (λ fault. DiskLeaves fault archive.new (D.view disk.old)
-        (D.view disk.new)) }
+    ensures ends { DiskEnds result archive.new (D.view disk.old) (D.view disk.new) }
     ensures keeps { DiskKeeps archive.new (D.view disk.old) (D.view disk.new) }
 {
     if table.layout().is_err() {
@@ -158,9 +151,7 @@ fn define<D: Disk>(
         × TableCame station number.0 table.now line (register_of archive.old) (register_of archive.new)) }
     ensures lines { OnErr result (report.new.lines ≡ report.old.lines) }
     ensures stays { OnErr result (register_of archive.new ≡ register_of archive.old) }
-    ensures goes { OnOk result (Goes archive.new (D.view disk.old) (D.view disk.new)) }
-    ensures fault { IfErr result (λ fault. DiskLeaves fault archive.new (D.view disk.old)
-        (D.view disk.new)) }
+    ensures ends { DiskEnds result archive.new (D.view disk.old) (D.view disk.new) }
     ensures keeps { DiskKeeps archive.new (D.view disk.old) (D.view disk.new) }
 {
     let Ok(name) = Text::of(alloc, table.name()) else {

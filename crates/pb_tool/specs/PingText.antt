@@ -21,17 +21,21 @@ hello_line node router metric verify = joined (
     codes "hello " ∷ decimal node ∷ codes " router " ∷ decimal router ∷ codes " metric " ∷ decimal metric
     ∷ codes " verify " ∷ decimal verify ∷ codes "\n" ∷ [])
 
+-- how the other lines start: `WORD NODE `, where the word ends with its space
+abbrev pub line_start : List ℕ → ℕ → List ℕ
+line_start word node = joined (word ∷ decimal node ∷ codes " " ∷ [])
+
 -- `clock NODE TIME`
 unfoldable pub clock_line : ℕ → Nsec → List ℕ
-clock_line node time = joined (codes "clock " ∷ decimal node ∷ codes " " ∷ time_text time ∷ codes "\n" ∷ [])
+clock_line node time = joined (line_start (codes "clock ") node ∷ time_text time ∷ codes "\n" ∷ [])
 
 -- `hello NODE CAUSE`
 unfoldable pub no_hello_line : ℕ → Cause → List ℕ
-no_hello_line node cause = joined (codes "hello " ∷ decimal node ∷ codes " " ∷ cause_text cause ∷ codes "\n" ∷ [])
+no_hello_line node cause = joined (line_start (codes "hello ") node ∷ cause_text cause ∷ codes "\n" ∷ [])
 
 -- `clock NODE CAUSE`
 unfoldable pub no_clock_line : ℕ → Cause → List ℕ
-no_clock_line node cause = joined (codes "clock " ∷ decimal node ∷ codes " " ∷ cause_text cause ∷ codes "\n" ∷ [])
+no_clock_line node cause = joined (line_start (codes "clock ") node ∷ cause_text cause ∷ codes "\n" ∷ [])
 
 unfoldable pub fault_text : ℕ → PingFault → List ℕ
 fault_text node fault.LinkFault = codes "pakbus: link fault\n"

@@ -6,7 +6,7 @@ ghost use Rattle.pb_io.specs.Page.{Adds, printing};
 ghost use Rattle.pb_io.specs.View.{LeavesOnly};
 ghost use Rattle.pb_tool.specs.Causes.{Counts};
 ghost use Rattle.pb_tool.specs.Ping.{Greets};
-ghost use Rattle.pb_tool.specs.PingText.{clock_line, hello_line, no_hello_line, no_clock_line, fault_text, ping_text, ping_status, RanPing};
+ghost use Rattle.pb_tool.specs.PingText.{clock_line, hello_line, line_start, no_hello_line, no_clock_line, fault_text, ping_text, ping_status, RanPing};
 ghost use Rattle.pb_value.specs.TimeText.{time_text};
 
 use crate::Status;
@@ -99,18 +99,25 @@ fn push_hello<O: Sink>(page: &mut Page, node: u16, router: u8, metric: u8, verif
     );
 }
 
-fn push_clock<O: Sink>(page: &mut Page, node: u16, time: Nsec, out: &mut O)
-    ensures { Adds (clock_line node time) (printing O.Sink page.old out.old)
+fn push_start<O: Sink>(page: &mut Page, word: &[u8], node: u16, out: &mut O)
+    ensures { Adds (line_start word.now node) (printing O.Sink page.old out.old)
         (printing O.Sink page.new out.new) }
 {
     page.put(
         &[
-            Part::Text(b"clock "),
+            Part::Text(word),
             Part::Number(u64::from(node)),
             Part::Text(b" "),
         ],
         out,
     );
+}
+
+fn push_clock<O: Sink>(page: &mut Page, node: u16, time: Nsec, out: &mut O)
+    ensures { Adds (clock_line node time) (printing O.Sink page.old out.old)
+        (printing O.Sink page.new out.new) }
+{
+    push_start(page, b"clock ", node, out);
     push_time(page, time, out);
     page.push(b"\n", out);
 }
@@ -127,14 +134,7 @@ fn push_no_hello<O: Sink>(page: &mut Page, node: u16, cause: Cause, out: &mut O)
     ensures { Adds (no_hello_line node cause) (printing O.Sink page.old out.old)
         (printing O.Sink page.new out.new) }
 {
-    page.put(
-        &[
-            Part::Text(b"hello "),
-            Part::Number(u64::from(node)),
-            Part::Text(b" "),
-        ],
-        out,
-    );
+    push_start(page, b"hello ", node, out);
     push_cause(page, cause, out);
     page.push(b"\n", out);
 }
@@ -143,14 +143,7 @@ fn push_no_clock<O: Sink>(page: &mut Page, node: u16, cause: Cause, out: &mut O)
     ensures { Adds (no_clock_line node cause) (printing O.Sink page.old out.old)
         (printing O.Sink page.new out.new) }
 {
-    page.put(
-        &[
-            Part::Text(b"clock "),
-            Part::Number(u64::from(node)),
-            Part::Text(b" "),
-        ],
-        out,
-    );
+    push_start(page, b"clock ", node, out);
     push_cause(page, cause, out);
     page.push(b"\n", out);
 }

@@ -1,4 +1,4 @@
-use Rattle.pb_collect.proofs.UploadLemmas.{framed}
+use Rattle.pb_collect.proofs.CommandLemmas.{framed}
 use Rattle.pb_collect.proofs.command.write_command.Goals as goal
 
 pub returns-clause-frame : goal.returns-clause-frame

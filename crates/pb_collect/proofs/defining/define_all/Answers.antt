@@ -59,6 +59,6 @@ loop-n-preserved g c =
       came = next_came c.args.station c.args.definitions.now c.loop-n.n c.unwrap-table.result.now (register_of c.args.archive.now) (register_of c.loop-n.archive) (register_of c.define.new.archive)
           c.args.report.now.lines c.loop-n.report.lines c.define.new.report.lines inv.came
           (table_at c.table.result c.unwrap-table.result c.args.definitions.now c.loop-n.n c.table.ensures c.unwrap-table.ensures) c.in-Ok.ensures.came;
-      goes = goes_trans c.loop-n.archive c.define.new.archive (g.D.Disk.view c.args.disk.now) (g.D.Disk.view c.loop-n.disk) (g.D.Disk.view c.define.new.disk) inv.goes c.in-Ok.ensures.goes;
+      goes = goes_trans c.loop-n.archive c.define.new.archive (g.D.Disk.view c.args.disk.now) (g.D.Disk.view c.loop-n.disk) (g.D.Disk.view c.define.new.disk) inv.goes c.in-Ok.ensures.ends;
       keeps = disk_trans c.loop-n.archive c.define.new.archive (g.D.Disk.view c.args.disk.now) (g.D.Disk.view c.loop-n.disk) (g.D.Disk.view c.define.new.disk) (g.met.D.Disk.lawful c.loop-n.disk) inv.keeps c.define.ensures.keeps;
     }

@@ -35,11 +35,7 @@ returns-in-Ok-clause-ran g c =
 
 pub returns-in-Err-clause-ran : goal.returns-in-Err-clause-ran
 unfolding answer_text
-returns-in-Err-clause-ran g c = record {
-  answer = Err c.in-Err.fault;
-  means = (c.in-Err.ensures.refused, c.open.ensures.link);
-  printed = c.refuse.ensures.closed;
-}
+returns-in-Err-clause-ran g c = record { answer = Err c.in-Err.fault; means = (c.in-Err.ensures.refused, c.open.ensures.link); printed = c.refuse.ensures.closed }
 
 pub returns-in-Ok-clause-keeps : goal.returns-in-Ok-clause-keeps
 returns-in-Ok-clause-keeps g c =
