@@ -1,17 +1,12 @@
 //! Laws of the messages, as functions with an empty body.
-ghost use Rattle.std.specs.Prelude.{◌≡◌, ℕ, List, [], ◌∷◌, ◌++◌};
-ghost use Rattle.pb_ctrl.specs.Message.{Message, Hello, HelloReply, Bye, HelloRequest, Failure, GetSettings, GetSettingsReply, SetSettings, SetSettingsReply, MayStandBehind, MessageBytes, message_bytes, MessageReads};
+ghost use Rattle.std.specs.Prelude.{◌≡◌, [], ◌∷◌};
+ghost use Rattle.pb_layout.specs.Layout.{WrittenIsRead};
+ghost use Rattle.pb_ctrl.specs.Message.{Hello, HelloReply, Bye, HelloRequest, Failure, GetSettings, GetSettingsReply, SetSettings, SetSettingsReply, keys, layout, message_bytes};
 
 /// A message that was written reads as itself, alone and before whatever may follow it. What reads as a message is its
 /// bytes and what may follow them, and nothing reads as two messages.
 pub fn written_message_is_read()
-    ensures alone { (m : Message) (bytes : List ℕ) → MessageBytes m bytes → MessageReads m bytes }
-    ensures again { (m : Message) (bytes rest : List ℕ) → MessageBytes m bytes → MayStandBehind m rest
-        → MessageReads m (bytes ++ rest) }
-    ensures parts { (m : Message) (bytes : List ℕ) → MessageReads m bytes
-        → (own rest : List ℕ) × (bytes ≡ own ++ rest) × MessageBytes m own × MayStandBehind m rest }
-    ensures one_message { (m other : Message) (bytes : List ℕ) → MessageReads m bytes
-        → MessageReads other bytes → m ≡ other }
+    ensures { WrittenIsRead layout keys }
 {}
 
 /// The bytes of one message of each type, each of whose keys is another.

@@ -6,7 +6,7 @@ use Rattle.std.proofs.lemmas.List.{append-nil}
 use Rattle.pb_base.specs.declared.message.MessageFault.{MessageFault}
 use Rattle.pb_base.specs.Fields.{Unread, IsBytes, whole}
 use Rattle.pb_layout.specs.Kind.{Value, spell, MayFollow}
-use Rattle.pb_layout.specs.Layout.{MessageLayout, Done, Stop, Key, Values, made, spelled, AllFit, AllObey, MayEnd, IsAmong, IsValid, bytes_of, ReadsAs}
+use Rattle.pb_layout.specs.Layout.{MessageLayout, Done, Stop, Key, Values, made, spelled, AllFit, AllObey, MayEnd, IsAmong, IsValid, bytes_of, ReadsAs, WrittenIsRead}
 use Rattle.pb_layout.specs.Reading.{and_then, key_at, reading, Gives}
 use Rattle.pb_layout.proofs.Steps.{ok_is, and_ok}
 use Rattle.pb_layout.proofs.KeyLaws.{key-takes, key-again}
@@ -94,6 +94,14 @@ only_by l keys view bytes (Err fault) e x reads = sym (reading-only l keys bytes
 -- two messages that the same bytes read as are one
 pub one_message : {X : Type 0} (l : MessageLayout X) (keys : X → Values l) (bytes : List ℕ) (x y : X) → ReadsAs l keys x bytes → ReadsAs l keys y bytes → x ≡ y
 one_message l keys bytes x y p q = ok_is x y (sym (reading-only l keys bytes x p) ∙ reading-only l keys bytes y q)
+
+pub written-is-read : {X : Type 0} (l : MessageLayout X) (keys : X → Values l) → ((x : X) → MayEnd l (keys x) []) → WrittenIsRead l keys
+written-is-read l keys ends = record {
+  alone = λ x bytes is. subst (ReadsAs l keys x) (sym is.is) (alone-reads l keys ends x is.valid is.fits);
+  again = λ x bytes rest is may. subst (λ b. ReadsAs l keys x (b ++ rest)) (sym is.is) (written-reads l keys x rest is.valid is.fits may);
+  parts = λ x bytes reads. (_, reads.rest, reads.parts, record { valid = reads.valid; fits = reads.fits; is = refl }, reads.ends);
+  one_message = λ x other bytes. one_message l keys bytes x other;
+}
 
 -- ---- types
 

@@ -83,3 +83,12 @@ module _ {X : Type 0} (l : MessageLayout X) (keys : X → Values l) where
     pub rest : List ℕ
     pub parts : bytes ≡ bytes_of x ++ rest
     pub ends : MayEnd l (keys x) rest
+
+  -- A message that was written reads as itself, alone and before whatever may follow it. What reads as a message is its
+  -- bytes and what may follow them, and nothing reads as two messages.
+  pub record WrittenIsRead : Type 0 where
+    pub alone : (x : X) (bytes : List ℕ) → HasBytes x bytes → ReadsAs x bytes
+    pub again : (x : X) (bytes rest : List ℕ) → HasBytes x bytes → MayEnd l (keys x) rest → ReadsAs x (bytes ++ rest)
+    pub parts : (x : X) (bytes : List ℕ) → ReadsAs x bytes
+        → (own rest : List ℕ) × (bytes ≡ own ++ rest) × HasBytes x own × MayEnd l (keys x) rest
+    pub one_message : (x other : X) (bytes : List ℕ) → ReadsAs x bytes → ReadsAs other bytes → x ≡ other
