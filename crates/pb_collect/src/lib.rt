@@ -35,6 +35,3 @@ pub use progress::{CONTENT_MAX, Progress};
 pub use question::CollectCommand;
 pub use report::{Cause, DefsLine, DefsReport, DefsWhat, Text};
 pub use upload::{FileReply, UploadCommand};
-
-#[cfg(test)]
-mod tests;

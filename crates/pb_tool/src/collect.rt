@@ -232,6 +232,3 @@ fn push_told<O: Sink>(page: &mut Page, told: Option<u16>, out: &mut O)
         Some(signature) => push_hex(page, &signature.to_be_bytes(), out),
     }
 }
-
-#[cfg(test)]
-mod tests;

@@ -211,6 +211,3 @@ fn push_failed<O: Sink>(page: &mut Page, cause: Cause, out: &mut O)
     push_cause(page, cause, out);
     page.push(b"\n", out);
 }
-
-#[cfg(test)]
-mod tests;

@@ -119,6 +119,3 @@ fn cut(numbers: Option<Numbers>, front: RecNo) -> Numbers
         },
     }
 }
-
-#[cfg(test)]
-mod tests;

@@ -19,6 +19,3 @@ mod words;
 
 pub use commands::run;
 pub use status::Status;
-
-#[cfg(test)]
-mod tests;

@@ -7,6 +7,3 @@ mod questions;
 mod request;
 
 pub use lines::print;
-
-#[cfg(test)]
-mod tests;

@@ -146,6 +146,3 @@ fn push_fault<O: Sink>(page: &mut Page, fault: ServeFault, out: &mut O)
         ServeFault::Memory => {}
     }
 }
-
-#[cfg(test)]
-mod tests;

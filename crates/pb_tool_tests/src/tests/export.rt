@@ -1,7 +1,7 @@
 //! `export` over archives in memory, whose texts were worked by hand.
-use crate::Status;
 use crate::tests::ran_over;
 use pb_io::{MemDisk, MemSite};
+use pb_tool::Status;
 use std::alloc::Global;
 use std::test::Fail;
 

@@ -1,7 +1,7 @@
 use Rattle.std.proofs.Common.{◌≡◌, ◌≤◌}
-use Rattle.pb_collect.specs.declared.tests.TheConstants.{EVENTS}
+use Rattle.pb_collect_tests.specs.declared.tests.TheConstants.{EVENTS}
 use Rattle.pb_collect.specs.Progress.{question}
-use Rattle.pb_collect.proofs.tests.goes.Given as goal
+use Rattle.pb_collect_tests.proofs.tests.goes.Given as goal
 
 abbrev pub invariant-loop-message : goal.invariant-loop-message
 invariant-loop-message l = record {

@@ -1,11 +1,11 @@
 //! Tables collected from answers that were worked out by hand.
-ghost use Rattle.std.specs.Prelude.{◌≡◌, ◌≤◌, ◌^◌, ◌<◌};
+ghost use Rattle.std.specs.Prelude.{◌≡◌, ◌≤◌};
 ghost use Rattle.pb_collect.specs.Progress as specs;
 
-use super::*;
 use pb_ask::Conclusion;
 use pb_base::{Layout, Nsec, RecNo, TableNo};
 use pb_bmp5::{Fragments, Mode, read_collect};
+use pb_collect::{Effect, Effects, End, Next, Progress, Said, answers_can_be_taken, fits};
 use std::alloc::Global;
 use std::test::Fail;
 

@@ -1,7 +1,7 @@
 //! `collect` over a site in memory, with frames that were worked by hand.
-use crate::Status;
 use crate::tests::ran_over;
 use pb_io::{MemDisk, MemSite};
+use pb_tool::Status;
 use std::alloc::Global;
 use std::test::Fail;
 

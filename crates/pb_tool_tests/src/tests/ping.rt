@@ -1,10 +1,10 @@
 //! Tests of `ping`, over a site in memory.
 
-use crate::Status;
 use crate::tests::ran_over;
 use pb_base::NodeId;
 use pb_io::{MemDisk, MemSite};
 use pb_packet::Packet;
+use pb_tool::Status;
 use pb_trans::{Asked, Exchange, Limits, Step};
 use std::alloc::{AllocError, Global};
 use std::test::Fail;

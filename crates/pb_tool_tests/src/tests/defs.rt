@@ -1,8 +1,8 @@
 //! `defs` over a site in memory, with files of table definitions that were worked by hand.
-use crate::Status;
 use crate::tests::ran_over;
 use pb_frame::{FRAME_MAX, frame_into};
 use pb_io::{MemDisk, MemSite};
+use pb_tool::Status;
 use std::alloc::Global;
 use std::test::Fail;
 

@@ -1,6 +1,6 @@
 use Rattle.std.proofs.Common.{◌≡◌}
 use Rattle.pb_collect.specs.Progress.{CanTakeAll}
-use Rattle.pb_collect.proofs.tests.takes.Given as goal
+use Rattle.pb_collect_tests.proofs.tests.takes.Given as goal
 
 abbrev pub invariant-loop-fragment : goal.invariant-loop-fragment
 invariant-loop-fragment l = record {
